@@ -1,0 +1,8 @@
+-- What a program is, what its processes do, which programs keep to their conversations, how a program is
+-- written as words, and what is true of every run.
+pub mod Program
+pub mod Steps
+pub mod Keeps
+pub mod Rows
+pub mod Theorems
+pub mod Examples

@@ -1,0 +1,42 @@
+-- What is true of every program, and of every run of a program that keeps to its conversations.
+use mathlib.Core.Path.{_≡_}
+use mathlib.Core.Logic.{_⊎_, _↔_}
+use mathlib.Core.Bool.{true}
+use mathlib.Core.List.{List}
+use mathlib.Core.Option.{Option, some, none}
+use Prim.Native.Nat.{ℕ, zero, suc, _≤_}
+use lib.ListN.{length}
+use Rattle.model.specs.Program.{nth, Program}
+use Rattle.model.specs.Steps.{Worker, running, stopped, spent, Configuration, Step, Steps, begin}
+use Rattle.model.specs.Keeps.{kept}
+use Rattle.model.specs.Rows.{Reads}
+
+-- Words are the writing of at most one program.
+abbrev pub One-program : Type 0
+One-program = (s : List ℕ) (g h : Program) → Reads s g → Reads s h → g ≡ h
+
+-- A normal form: no further step is possible.
+abbrev pub Still : Program → Configuration → Type 0
+Still g a = (b : Configuration) → Step g a b → ⊥
+-- Every process has stopped.
+abbrev pub All-stopped : Configuration → Type 0
+All-stopped a = (i : ℕ) (w : Worker) → nth (a .workers) i ≡ some w → w .state ≡ stopped
+-- Some process is out of turns.
+abbrev pub Out : Configuration → Type 0
+Out a = (i : ℕ) × (w : Worker) × (nth (a .workers) i ≡ some w) × (w .state ≡ spent)
+
+-- a run of so many steps from the beginning
+abbrev pub Counted : Program → ℕ → ℕ → Configuration → Type 0
+Counted g turns zero a = a ≡ begin g turns
+Counted g turns (suc c) a = (b : Configuration) × Counted g turns c b × Step g b a
+-- Every order comes to an end, after a bounded number of steps.
+abbrev pub Ends : Type 0
+Ends = (s : List ℕ) (g : Program) (turns : ℕ) → Reads s g → (most : ℕ) × ((a : Configuration) (c : ℕ) → Counted g turns c a → c ≤ most)
+-- In a program that keeps to its conversations, whatever the order of steps, there is always a next step, until
+-- all have stopped, or some process is out of turns.
+abbrev pub Never-jams : Type 0
+Never-jams = (s : List ℕ) (g : Program) (turns : ℕ) (a : Configuration) → Reads s g → kept g ≡ true → Steps g (begin g turns) a → Still g a → All-stopped a ⊎ Out a
+-- All orders come to the same: the same numbers shown, as many processes, and out of turns in all orders or in none.
+abbrev pub Any-order : Type 0
+Any-order = (s : List ℕ) (g : Program) (turns : ℕ) (a b : Configuration) → Reads s g → kept g ≡ true → Steps g (begin g turns) a → Steps g (begin g turns) b → Still g a → Still g b →
+  (a .shown ≡ b .shown) × (length (a .workers) ≡ length (b .workers)) × (Out a ↔ Out b)

@@ -1,7 +1,7 @@
 -- Writings are prefix-free: what they are of, and where they end, can be read off the words.
-use mathlib.Core.Path.{_≡_, refl, ap, sym, _∙_}
-use mathlib.Core.List.{List, [], _∷_, _++_, append-assoc, append-nil}
-use Prim.Native.Nat.{ℕ, zero, suc, _≤_}
+use mathlib.Core.Path.{_≡_, refl}
+use mathlib.Core.List.{List, [], _∷_, _++_, append-assoc}
+use Prim.Native.Nat.{ℕ, _≤_}
 use native.Mathlib.Omega.{arith}
 use lib.ListN.{length}
 use Rattle.model.specs.Program.{Point, over, gives, takes, chooses, offers, Expression, num, var, add, sub, mul, less, Action, stop, give, take, choose, offer, set, if, show, start, become, Process, Program}
@@ -29,7 +29,7 @@ pair-prefix f g a c b d x y p q h =
   let v : (b ≡ d) × (x ≡ y) = q d x y (u .1) in
   (u .0, v .0, v .1)
 
--- which expression begins with which word
+-- which expression begins with which word; and a writing is not empty
 pub data ShapeE : ℕ → Expression → Type 0 where
   is-num : (n : ℕ) → ShapeE 0 (num n)
   is-var : (x : ℕ) → ShapeE 1 (var x)
@@ -46,6 +46,10 @@ rowE-front (mul a b) = (4, rowE a ++ rowE b, refl, is-mul a b, omega arith)
 rowE-front (less a b) = (5, rowE a ++ rowE b, refl, is-less a b, omega arith)
 pub rowE-shape : (k : ℕ) (t : List ℕ) (e : Expression) (y : List ℕ) → k ∷ t ≡ rowE e ++ y → ShapeE k e
 rowE-shape k t e y h = let f = rowE-front e in let q : k ≡ f .0 = cc (f .2) in rw q (f .3)
+pub rowE-first : (k : ℕ) (t : List ℕ) (e : Expression) (y : List ℕ) → k ∷ t ≡ rowE e ++ y → k ≤ 5
+rowE-first k t e y h = let f = rowE-front e in let q : k ≡ f .0 = cc (f .2) in omega arith
+pub rowE-some : (e : Expression) (y : List ℕ) → [] ≡ rowE e ++ y → ⊥
+rowE-some e y h = let f = rowE-front e in let z : _≡_ {A = ℕ} 0 1 = cc (f .2) in omega arith
 
 -- an expression and one that begins with the same word
 rowE-num : (n : ℕ) (f : Expression) (x y : List ℕ) → ShapeE 0 f → 0 ∷ n ∷ x ≡ rowE f ++ y → (num n ≡ f) × (x ≡ y)
@@ -94,7 +98,7 @@ rows-prefix-free row rows n c p w (a ∷ l) (b ∷ m) h =
 pub rowEs-prefix : (es fs : List Expression) (x y : List ℕ) → length es ≡ length fs → rowEs es ++ x ≡ rowEs fs ++ y → (es ≡ fs) × (x ≡ y)
 rowEs-prefix = rows-prefix rowE rowEs refl (λ e es. refl) rowE-prefix
 
--- which action begins with which word
+-- which action begins with which word; and a writing is not empty
 pub data ShapeA : ℕ → Action → Type 0 where
   is-stop : ShapeA 0 stop
   is-give : (c : ℕ) (e : Expression) (s : Action) → ShapeA 1 (give c e s)
@@ -119,6 +123,10 @@ rowA-front (start f cs es s) = (8, f ∷ length cs ∷ (cs ++ (length es ∷ (ro
 rowA-front (become f cs es) = (9, f ∷ length cs ∷ (cs ++ (length es ∷ rowEs es)), refl, is-become f cs es, omega arith)
 pub rowA-shape : (k : ℕ) (b : List ℕ) (t : Action) (y : List ℕ) → k ∷ b ≡ rowA t ++ y → ShapeA k t
 rowA-shape k b t y h = let f = rowA-front t in let e : k ≡ f .0 = cc (f .2) in rw e (f .3)
+pub rowA-first : (k : ℕ) (b : List ℕ) (t : Action) (y : List ℕ) → k ∷ b ≡ rowA t ++ y → k ≤ 9
+rowA-first k b t y h = let f = rowA-front t in let q : k ≡ f .0 = cc (f .2) in omega arith
+pub rowA-some : (t : Action) (y : List ℕ) → [] ≡ rowA t ++ y → ⊥
+rowA-some t y h = let f = rowA-front t in let z : _≡_ {A = ℕ} 0 1 = cc (f .2) in omega arith
 
 -- what is handed on, with its counts
 pub handed-prefix : (cs ds : List ℕ) (es fs : List Expression) (x y : List ℕ) → length cs ≡ length ds → cs ++ (length es ∷ (rowEs es ++ x)) ≡ ds ++ (length fs ∷ (rowEs fs ++ y)) →
@@ -174,3 +182,58 @@ rowA-prefix (if e s s′) t x y h = rowA-if e s s′ t x y (rowA-prefix s) (rowA
 rowA-prefix (show e s) t x y h = rowA-show e s t x y (rowA-prefix s) (rowA-shape 7 _ t y h) h
 rowA-prefix (start f cs es s) t x y h = rowA-start f cs es s t x y (rowA-prefix s) (rowA-shape 8 _ t y h) h
 rowA-prefix (become f cs es) t x y h = rowA-become f cs es t x y (rowA-shape 9 _ t y h) h
+
+-- which point begins with which word; and a writing is not empty
+pub data ShapeP : ℕ → Point → Type 0 where
+  is-over : ShapeP 0 over
+  is-gives : (n : ℕ) → ShapeP 1 (gives n)
+  is-takes : (n : ℕ) → ShapeP 2 (takes n)
+  is-chooses : (n m : ℕ) → ShapeP 3 (chooses n m)
+  is-offers : (n m : ℕ) → ShapeP 4 (offers n m)
+pub rowP-front : (p : Point) → (k : ℕ) × (b : List ℕ) × (rowP p ≡ k ∷ b) × ShapeP k p × (k ≤ 4)
+rowP-front over = (0, [], refl, is-over, omega arith)
+rowP-front (gives n) = (1, n ∷ [], refl, is-gives n, omega arith)
+rowP-front (takes n) = (2, n ∷ [], refl, is-takes n, omega arith)
+rowP-front (chooses n m) = (3, n ∷ m ∷ [], refl, is-chooses n m, omega arith)
+rowP-front (offers n m) = (4, n ∷ m ∷ [], refl, is-offers n m, omega arith)
+pub rowP-shape : (k : ℕ) (b : List ℕ) (p : Point) (y : List ℕ) → k ∷ b ≡ rowP p ++ y → ShapeP k p
+rowP-shape k b p y h = let f = rowP-front p in let e : k ≡ f .0 = cc (f .2) in rw e (f .3)
+pub rowP-first : (k : ℕ) (b : List ℕ) (p : Point) (y : List ℕ) → k ∷ b ≡ rowP p ++ y → k ≤ 4
+rowP-first k b p y h = let f = rowP-front p in let q : k ≡ f .0 = cc (f .2) in omega arith
+pub rowP-some : (p : Point) (y : List ℕ) → [] ≡ rowP p ++ y → ⊥
+rowP-some p y h = let f = rowP-front p in let z : _≡_ {A = ℕ} 0 1 = cc (f .2) in omega arith
+
+pub rowP-prefix : (p q : Point) (x y : List ℕ) → rowP p ++ x ≡ rowP q ++ y → (p ≡ q) × (x ≡ y)
+rowP-prefix p q x y h = grind arith
+pub rowPs-prefix : (ps qs : List Point) (x y : List ℕ) → length ps ≡ length qs → rowPs ps ++ x ≡ rowPs qs ++ y → (ps ≡ qs) × (x ≡ y)
+rowPs-prefix = rows-prefix rowP rowPs refl (λ p ps. refl) rowP-prefix
+
+-- records with equal fields
+pub process-path : (p q : Process) → p .talks ≡ q .talks → p .nums ≡ q .nums → p .vars ≡ q .vars → p .body ≡ q .body → p ≡ q
+process-path p q a b c d = λ i. record { talks = a i; nums = b i; vars = c i; body = d i }
+pub program-path : (g h : Program) → g .points ≡ h .points → g .other ≡ h .other → g .procs ≡ h .procs → g ≡ h
+program-path g h a b c = λ i. record { points = a i; other = b i; procs = c i }
+
+-- the writing of a process, read from the left
+pub rowR-row : (p : Process) (x : List ℕ) → rowR p ++ x ≡ length (p .talks) ∷ (p .talks ++ (p .nums ∷ p .vars ∷ (rowA (p .body) ++ x)))
+rowR-row p x = simp append-assoc
+pub rowR-prefix : (p q : Process) (x y : List ℕ) → rowR p ++ x ≡ rowR q ++ y → (p ≡ q) × (x ≡ y)
+rowR-prefix p q x y h =
+  let a = rowR-row p x in let b = rowR-row q y in
+  let z = list-prefix (p .talks) (q .talks) (p .nums ∷ p .vars ∷ (rowA (p .body) ++ x)) (q .nums ∷ q .vars ∷ (rowA (q .body) ++ y)) (cc) (cc) in
+  let r = rowA-prefix (p .body) (q .body) x y (cc) in
+  (process-path p q (z .0) (cc) (cc) (r .0), r .1)
+pub rowR-front : (p : Process) → (k : ℕ) × (b : List ℕ) × (rowR p ≡ k ∷ b)
+rowR-front p = (length (p .talks), p .talks ++ (p .nums ∷ p .vars ∷ rowA (p .body)), refl)
+pub rowRs-prefix : (ps qs : List Process) (x y : List ℕ) → length ps ≡ length qs → rowRs ps ++ x ≡ rowRs qs ++ y → (ps ≡ qs) × (x ≡ y)
+rowRs-prefix = rows-prefix rowR rowRs refl (λ p ps. refl) rowR-prefix
+pub rowRs-prefix-free : (ps qs : List Process) → rowRs ps ≡ rowRs qs → ps ≡ qs
+rowRs-prefix-free = rows-prefix-free rowR rowRs refl (λ p ps. refl) rowR-prefix rowR-front
+
+pub one-program : One-program
+one-program s g h p q =
+  let e : rowG g ≡ rowG h = cc in
+  let a = rowPs-prefix (g .points) (h .points) (g .other ++ rowRs (g .procs)) (h .other ++ rowRs (h .procs)) (cc) (cc) in
+  let b = list-prefix (g .other) (h .other) (rowRs (g .procs)) (rowRs (h .procs)) (cc) (a .1) in
+  let c = rowRs-prefix-free (g .procs) (h .procs) (b .1) in
+  program-path g h (a .0) (b .0) c

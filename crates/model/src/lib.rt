@@ -6,6 +6,7 @@ ghost use lib.ListN.{length};
 ghost use Rattle.model.specs.Examples.{shop, hasty};
 ghost use Rattle.model.specs.Keeps.{kept};
 ghost use Rattle.model.specs.Rows.{rowG};
+ghost use Rattle.model.specs.Theorems.{One-program};
 
 // The clerk and the till keep to their conversation, and their rows are this many words; the hasty clerk is careless.
 pub fn shop_words() -> u32
@@ -14,4 +15,11 @@ pub fn shop_words() -> u32
     ensures careless { λ _. ⌜ kept hasty ≡ false ⌝ }
 {
     63
+}
+
+// Words are the writing of at most one program.
+pub fn one_program() -> u32
+    ensures { λ _. ⌜ One-program ⌝ }
+{
+    0
 }

@@ -1,0 +1,7 @@
+-- The laws of decoding and of reading.
+pub mod Places
+pub mod Instructions
+pub mod Terms
+pub mod ExpressionLaws
+pub mod Sequences
+pub mod Passes

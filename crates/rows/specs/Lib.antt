@@ -1,0 +1,3 @@
+-- What the contracts of the reader cite.
+pub mod Decode
+pub mod Reading

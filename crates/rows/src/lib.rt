@@ -1,0 +1,4 @@
+// Reads rows of words: what stands at a place, and whether the whole is a program.
+pub mod decode;
+pub mod expressions;
+pub mod actions;

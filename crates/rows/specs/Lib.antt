@@ -1,3 +1,4 @@
 -- What the contracts of the reader cite.
 pub mod Decode
 pub mod Reading
+pub mod Mapped

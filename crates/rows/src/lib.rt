@@ -2,3 +2,4 @@
 pub mod decode;
 pub mod expressions;
 pub mod actions;
+pub mod map;

@@ -5,3 +5,4 @@ pub mod Terms
 pub mod ExpressionLaws
 pub mod Sequences
 pub mod Passes
+pub mod Walks

@@ -3,7 +3,7 @@ use mathlib.Core.Path.{_≡_, refl, sym, ap, _∙_, subst}
 use mathlib.Core.List.{List, [], _∷_, _++_, append-assoc}
 use Prim.Native.Nat.{ℕ, zero, suc, _+_, _-_, _<_, _≤_, max}
 use native.Mathlib.Omega.{arith}
-use lib.ListN.{length, getD, drop, length-append, length-drop}
+use lib.ListN.{length, getD, take as front, drop, length-append, length-take, length-drop}
 use Rattle.std.specs.declared.option.Option.the-variants.{Some, None}
 use Rattle.rows.specs.declared.decode.Call.{Call}
 use Rattle.rows.specs.declared.decode.Instruction.{Instruction}
@@ -45,6 +45,23 @@ leads s i d r j r′ con front rows ends pos within row deeps news secs on = rec
         stood = record { it = con t; rows = e ∙ (sym (append-assoc front (rowA t) x) ∙ ap (λ y. y ++ x) (sym (row t))); deeps = deeps t (a .stood .deeps); news = news t (a .stood .news) };
         seconds = secs m t (a .seconds); long = omega arith };
     on = on; further = omega arith; within = within }
+
+-- the conversations that a call hands on
+abbrev pub handed : List ℕ → Call → List ℕ
+handed s g = front (g .count) (drop (g .conversations) s)
+pub handed-long : (s : List ℕ) (i : ℕ) (g : Call) → CallWords s i g → length (handed s g) ≡ g .count
+handed-long s i g cw = simp (length-take, length-drop) (omega arith)
+-- the words of a call: its code, the process, and the two lists
+pub call-rows : (s : List ℕ) (i : ℕ) (g : Call) → CallWords s i g → drop i s ≡ getD s i 0 ∷ g .process ∷ g .count ∷ (handed s g ++ (g .expressions ∷ drop (g .numbers) s))
+call-rows s i g cw =
+  let o : i + 2 < length s = omega arith in
+  let o2 : i + 3 + g .count < length s = omega arith in
+  let e1 = drop-three s i o in
+  let e2 = drop-list s (i + 3) (g .count) in
+  let e3 = drop-one s (i + 3 + g .count) o2 in
+  let e4 : i + 3 + g .count + 1 ≡ g .numbers = omega arith in
+  let e5 : drop (i + 3 + g .count) s ≡ g .expressions ∷ drop (g .numbers) s = e3 ∙ cc in
+  cc
 
 module _ (s : List ℕ) (i d r : ℕ) (k : Instruction) (is : Some k ≡ instructionAt s i) (w : Words s i k) where
   pub stop-end : k ≡ Stop → (m : List ℕ) → ActionAt s m i d r (i + 1)
@@ -180,3 +197,51 @@ module _ (s : List ℕ) (i d r : ℕ) (k : Instruction) (is : Some k ≡ instruc
       go : (t : Action) → Standing s i x (If v) t → deep t ≤ d → ⊥
       go t (at-if {e} {t = u} {u = y} h) p = nope e (rowA u ++ (rowA y ++ x)) h (omega arith)
 
+  pub start-leads : (g : Call) (j : ℕ) → k ≡ Start g → 0 < r → ExpressionsAt s (g .numbers) d (g .expressions) j → Leads s i d r j d (r - 1)
+  start-leads g j kind pos a =
+    let w′ = subst (Words s i) kind w in
+    let cs = handed s g in
+    let es = a .them in
+    let e0 = call-rows s i g (w′ .1) in
+    let hl = handed-long s i g (w′ .1) in
+    let q = a .ends in let cw = w′ .1 in
+    let bound = a .within (cw .within) in
+    let e1 : drop i s ≡ 8 ∷ g .process ∷ length cs ∷ (cs ++ (length es ∷ (rowEs es ++ drop j s))) = e0 ∙ cc (a .rows, a .many, hl, w′ .0) in
+    let l1 = length-append cs (length es ∷ rowEs es) in
+    let z : j ≡ i + 4 + length cs + length (rowEs es) = omega arith in
+    leads s i d r j (r - 1) (start (g .process) cs es) (8 ∷ g .process ∷ length cs ∷ (cs ++ (length es ∷ rowEs es))) (e1 ∙ simp append-assoc) (omega arith) (omega arith) bound
+    (λ t. simp append-assoc) (λ t p. let b = a .deep in omega arith) (λ t p. omega arith) (λ m t p. subst (λ (b : ℕ). Seconds m b t) z p)
+    (λ x b. go x (b .it) (there s i k (Start g) (b .it) x is kind (b .rows)) (b .deeps) (b .news))
+    where
+      go : (x : List ℕ) (t : Action) → Standing s i x (Start g) t → deep t ≤ d → new t ≤ r → Stood s j d (r - 1) x
+      go x t (at-start {es} {t = u} h) p q = record { it = u; rows = rowEs-prefix (a .them) es (drop j s) (rowA u ++ x) (a .many ∙ h .expressions) (sym (a .rows) ∙ h .numbers) .1; deeps = omega arith; news = omega arith }
+  pub start-none : (g : Call) → k ≡ Start g → NoExpressions s (g .numbers) d (g .expressions) → NoAction s i d r
+  start-none g kind nope t x h p q = go t (there s i k (Start g) t x is kind h) p
+    where
+      go : (t : Action) → Standing s i x (Start g) t → deep t ≤ d → ⊥
+      go t (at-start {es} {t = u} h) p = nope es (rowA u ++ x) (sym (h .expressions)) (h .numbers) (omega arith)
+  pub start-full : (g : Call) → k ≡ Start g → r ≡ 0 → NoAction s i d r
+  start-full g kind none t x h p q = go t (there s i k (Start g) t x is kind h) q
+    where
+      go : (t : Action) → Standing s i x (Start g) t → new t ≤ r → ⊥
+      go t (at-start {t = u} h) q = omega arith
+
+  pub become-end : (g : Call) (j : ℕ) → k ≡ Become g → ExpressionsAt s (g .numbers) d (g .expressions) j → (m : List ℕ) → ActionAt s m i d r j
+  become-end g j kind a m =
+    let w′ = subst (Words s i) kind w in
+    let cs = handed s g in
+    let es = a .them in
+    let e0 = call-rows s i g (w′ .1) in
+    let hl = handed-long s i g (w′ .1) in
+    let q = a .ends in let cw = w′ .1 in
+    let bound = a .within (cw .within) in
+    let e1 : drop i s ≡ 9 ∷ g .process ∷ length cs ∷ (cs ++ (length es ∷ (rowEs es ++ drop j s))) = e0 ∙ cc (a .rows, a .many, hl, w′ .0) in
+    let l1 = length-append cs (length es ∷ rowEs es) in
+    record {
+      it = become (g .process) cs es; rows = e1 ∙ simp append-assoc; deeps = a .deep; news = omega arith; seconds = tt;
+      ends = omega arith; further = omega arith; within = bound }
+  pub become-none : (g : Call) → k ≡ Become g → NoExpressions s (g .numbers) d (g .expressions) → NoAction s i d r
+  become-none g kind nope t x h p q = go t (there s i k (Become g) t x is kind h) p
+    where
+      go : (t : Action) → Standing s i x (Become g) t → deep t ≤ d → ⊥
+      go t (at-become {es} h) p = nope es x (sym (h .expressions)) (h .numbers) p

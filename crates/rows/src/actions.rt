@@ -61,3 +61,39 @@ fn advance(p: &[u32], at: usize, depth: u32, room: u32) -> Pass
         },
     }
 }
+
+// The place behind the action that stands at a place, if one does that keeps the limits; the table then has its
+// second ways. What the table has for places before this one stays as it was.
+pub fn action_end(p: &[u32], at: usize, depth: u32, room: u32, second: &mut [u16]) -> Option<usize>
+    requires table { ⌜ length (now p) ≤ length (now second) ⌝ }
+    requires small { ⌜ length (now p) < 2 ^ 16 ⌝ }
+    ensures ends { λ r. ⌜ ActionEnd (now (p .entry)) (now (second .exit)) at depth room r ⌝ }
+    ensures before { λ _. ⌜ Same-below at (now (second .entry)) (now (second .exit)) ⌝ }
+{
+    let mut here = at;
+    let mut deep = depth;
+    let mut left = room;
+    'walk: loop {
+        match advance(p, here, deep, left) {
+            Pass::Fault => return None,
+            Pass::End(end) => return Some(end),
+            Pass::On(next, rest) => {
+                here = next;
+                left = rest;
+            }
+            Pass::Fork(first) => {
+                if deep == 0 {
+                    return None;
+                }
+                match action_end(p, first, deep - 1, left, second) {
+                    None => return None,
+                    Some(next) => {
+                        second[here] = next as u16;
+                        here = next;
+                        deep -= 1;
+                    }
+                }
+            }
+        }
+    }
+}

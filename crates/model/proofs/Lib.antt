@@ -1,1 +1,2 @@
 -- The proofs of the theorems.
+pub mod Lists

@@ -1,2 +1,4 @@
 -- The proofs of the theorems.
 pub mod Lists
+pub mod Ends
+pub mod Keeping

@@ -2,3 +2,5 @@
 pub mod Lists
 pub mod Ends
 pub mod Keeping
+pub mod Patch
+pub mod Handing

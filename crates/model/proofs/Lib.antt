@@ -4,3 +4,4 @@ pub mod Ends
 pub mod Keeping
 pub mod Patch
 pub mod Handing
+pub mod Forest

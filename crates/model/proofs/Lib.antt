@@ -5,3 +5,4 @@ pub mod Keeping
 pub mod Patch
 pub mod Handing
 pub mod Forest
+pub mod Invariant

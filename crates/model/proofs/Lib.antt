@@ -6,3 +6,4 @@ pub mod Patch
 pub mod Handing
 pub mod Forest
 pub mod Invariant
+pub mod Sound

@@ -11,12 +11,12 @@ use native.Mathlib.Omega.{arith}
 use lib.ListN.{length}
 use lib.Dec.{eqb}
 use Rattle.model.specs.Program.{nth, put, value, values, Point, over, gives, takes, chooses, offers, Expression, Action, stop, give, take, choose, offer, set, if, show, start, become, Process, Program}
-use Rattle.model.specs.Keeps.{kept, begins, Ways, ways, way}
-use Rattle.model.specs.Steps.{Endpoint, own-end, far-end, State, running, stopped, spent, Worker, Configuration, begun, end, ends-of, without, Alone, stops, sets, ifs, shows, starts, becomes, starts-spent, becomes-spent, Facing, Together, passes, agrees, Step, alone, together, Steps, here, more, begin}
+use Rattle.model.specs.Keeps.{begins, Ways, ways, way, after-give, after-take, after-choose, after-offer}
+use Rattle.model.specs.Steps.{Endpoint, own-end, far-end, State, running, stopped, spent, Worker, Configuration, on, begun, first-worker, end, ends-of, without, Alone, stops, sets, ifs, shows, starts, becomes, starts-spent, becomes-spent, Facing, Together, passes, agrees, Step, alone, together, Steps, here, more, begin}
 use Rattle.model.specs.Picture.{Has, Holds, place, places, Keeps-on, Mutual, Live}
 use Rattle.model.proofs.Lists.{same?, append-nil, nth-put-other, nth-map, map-append}
 use Rattle.model.proofs.Patch.{end?, end-is, moved, moved-same, moved-other}
-use Rattle.model.proofs.Keeping.{or-open, Next, next, Over, Moves, Starts, Becomes, Dual, over-over, gives-takes, takes-gives, chooses-offers, offers-chooses, Fit, Good, good, mutual-turn, after-give-is, after-take-is, after-choose-is, after-offer-is}
+use Rattle.model.proofs.Keeping.{or-open, Next, next, Over, Moves, Starts, Becomes, Dual, over-over, gives-takes, takes-gives, chooses-offers, offers-chooses, Fit, Good, mutual-turn, after-give-is, after-take-is, after-choose-is, after-offer-is}
 use Rattle.model.proofs.Handing.{Once, Handed, Hands, hands-open, left-from, handed-from, handed-split, handed-once, handed-left-is, handed-ends-is, places-end, places-agree, places-moved, places-moved-other}
 use Rattle.model.proofs.Forest.{forest-empty}
 use Rattle.model.proofs.Invariant.{Side, Inv, inv-put, inv-start}
@@ -241,3 +241,106 @@ module _ (g : Program) (gd : Good g) (ws : List Worker) (n : ℕ) (sound : Sound
   alone-sound i w w′ vs ns h (becomes f cs es p l t fp e) = becomes-sound i w _ h f cs p fp (now i w _ h t) refl refl refl
   alone-sound i w w′ vs ns h (starts-spent f cs es s t e) = quiet i w _ h refl (sound .inv .kept i w h) (λ z. not-spent _ z)
   alone-sound i w w′ vs ns h (becomes-spent f cs es t e) = quiet i w _ h refl (sound .inv .kept i w h) (λ z. not-spent _ z)
+
+  -- the points at the two ends of a line at which two processes stand
+  meet : {A B : Type 0} (i j : ℕ) (w v : Worker) → nth ws i ≡ some w → nth ws j ≡ some v → (c d : ℕ) (after : Point → Option A) (after′ : Point → Option B) (x : A) (y : B)
+    (a : Stands g (sound .point) (w .ends) c after x) (b : Stands g (sound .point) (v .ends) d after′ y) → a .at .line ≡ b .at .line → (a .at .side ≡ b .at .side → ⊥) → Dual g (a .says) (b .says)
+  meet i j w v h h′ c d after after′ x y a b line sides =
+      let ma = sound .inv .made i (a .at) (w, h, (c, a .is-at)) in
+      let mb = sound .inv .made j (b .at) (v, h′, (d, b .is-at)) in
+      let f = gd .fits _ _ (facing-fit g (sound .point) n (sound .fit) (a .at) (b .at) (ma .0) line sides (ma .1) (mb .1)) in
+      let p = f .is-this in
+      let p′ = a .is-says in
+      let q = f .is-that in
+      let q′ = b .is-says in
+      let e : f .this ≡ a .says = cc in
+      let e′ : f .that ≡ b .says = cc in
+      rw (← e, ← e′) (f .dual)
+  facing-ends : {A B : Type 0} (w v : Worker) (c d : ℕ) (after : Point → Option A) (after′ : Point → Option B) (x : A) (y : B)
+    (a : Stands g (sound .point) (w .ends) c after x) (b : Stands g (sound .point) (v .ends) d after′ y) → Facing (end (w .ends) c) (end (v .ends) d) → (a .at .line ≡ b .at .line) × (a .at .side ≡ b .at .side → ⊥)
+  facing-ends w v c d after after′ x y a b f =
+      let p = or-open (nth (w .ends) c) (f .a) (f .is-a) in
+      let q = or-open (nth (v .ends) d) (f .b) (f .is-b) in
+      let p′ = a .is-at in
+      let q′ = b .is-at in
+      let e : f .a ≡ a .at = cc in
+      let e′ : f .b ≡ b .at = cc in
+      (rw (← e, ← e′) (f .line), rw (← e, ← e′) (f .sides))
+
+  together-sound : (i j : ℕ) (w v w′ v′ : Worker) → (i ≡ j → ⊥) → nth ws i ≡ some w → nth ws j ≡ some v → Together w v w′ v′ → Sound g (put (put ws i w′) j v′) n
+  together-sound i j w v w′ v′ i≢j h h′ (passes c d x e s t tw tv face) =
+      let kw = now i w (give c e s) h tw in
+      let kv = now j v (take d x t) h′ tv in
+      let a = stands g (sound .point) (w .ends) c after-give (kw .0) in
+      let b = stands g (sound .point) (v .ends) d after-take (kv .0) in
+      let f = facing-ends w v c d after-give after-take _ _ a b face in
+      let pa = after-give-is (a .says) (kw .0 .goes) (a .allowed) in
+      let pb = after-take-is (b .says) (kv .0 .goes) (b .allowed) in
+      let mn = gives-dual g (a .says) (b .says) (kw .0 .goes) (kv .0 .goes) (meet i j w v h h′ c d after-give after-take _ _ a b (f .0) (f .1)) pa pb in
+      exchange g ws n sound i j w v _ _ i≢j h h′ refl refl refl refl c d (kw .0 .goes) (kv .0 .goes) (a .at) (b .at) (a .is-at) (b .is-at) (f .0) (f .1)
+        (live-at g (sound .point) (a .at) (a .says) (a .is-says) (λ o. grind arith)) (live-at g (sound .point) (b .at) (b .says) (b .is-says) (λ o. grind arith)) mn (kw .1) (kv .1)
+  together-sound i j w v w′ v′ i≢j h h′ (agrees c d k s t u tw tv face) =
+      let kw = now i w (choose c k s) h tw in
+      let kv = now j v (offer d t u) h′ tv in
+      go (kw .0 .goes) (kv .0 .goes) (eqb k 0) (stands g (sound .point) (w .ends) c after-choose (kw .0)) (stands g (sound .point) (v .ends) d after-offer (kv .0)) refl (kw .1) (kv .1) (kv .2)
+    where
+      ways-keep : (b : Bool) (o o′ : ℕ) (a : List (Option ℕ)) → Keeps-on g t (put a d (some o)) → Keeps-on g u (put a d (some o′)) → Keeps-on g (cond b t u) (put a d (some (cond b o o′)))
+      ways-keep true o o′ a p q = p
+      ways-keep false o o′ a p q = q
+      ways-fit : (b : Bool) (m m′ o o′ : ℕ) → Mutual g m o × Mutual g m′ o′ → Mutual g (cond b m m′) (cond b o o′)
+      ways-fit true m m′ o o′ p = p .0
+      ways-fit false m m′ o o′ p = p .1
+      go : (x y : Ways) (z : Bool) → Stands g (sound .point) (w .ends) c after-choose x → Stands g (sound .point) (v .ends) d after-offer y → eqb k 0 ≡ z →
+        Keeps-on g s (put (places (sound .point) (w .ends)) c (some (way k x))) → Keeps-on g t (put (places (sound .point) (v .ends)) d (some (way 0 y))) → Keeps-on g u (put (places (sound .point) (v .ends)) d (some (way 1 y))) →
+        Sound g (put (put ws i (on w s)) j (on v (cond (eqb k 0) t u))) n
+      go (ways m m′) (ways o o′) z a b kz keeps keeps′ keeps″ =
+          let f = facing-ends w v c d after-choose after-offer _ _ a b face in
+          let pa = after-choose-is (a .says) m m′ (a .allowed) in
+          let pb = after-offer-is (b .says) o o′ (b .allowed) in
+          let both = chooses-dual g (a .says) (b .says) m m′ o o′ (meet i j w v h h′ c d after-choose after-offer _ _ a b (f .0) (f .1)) pa pb in
+          exchange g ws n sound i j w v _ _ i≢j h h′ refl refl refl refl c d (cond (eqb k 0) m m′) (cond (eqb k 0) o o′) (a .at) (b .at) (a .is-at) (b .is-at) (f .0) (f .1)
+            (live-at g (sound .point) (a .at) (a .says) (a .is-says) (λ z. grind arith)) (live-at g (sound .point) (b .at) (b .says) (b .is-says) (λ z. grind arith))
+            (ways-fit (eqb k 0) m m′ o o′ both) keeps (ways-keep (eqb k 0) o o′ (places (sound .point) (v .ends)) keeps′ keeps″)
+
+pub step-sound : (g : Program) → Good g → (a b : Configuration) → Sound g (a .workers) (a .next) → Step g a b → Sound g (b .workers) (b .next)
+step-sound g gd a b s (alone i w w′ ws ns h r st) = alone-sound g gd (a .workers) (a .next) s i w w′ ws ns h st
+step-sound g gd a b s (together i j w v w′ v′ d h h′ r r′ st) = together-sound g gd (a .workers) (a .next) s i j w v w′ v′ d h h′ st
+
+begin-sound : (g : Program) → Good g → (turns : ℕ) → Sound g (begin g turns .workers) 0
+begin-sound g gd turns = go (nth (g .procs) 0) refl
+  where
+    no-ends : (p : Process) (i : ℕ) (e : Endpoint) → Holds (begun p [] [] turns ∷ []) i e → ⊥
+    no-ends p zero e h =
+        let k = h .1 in
+        let w : h .0 ≡ begun p [] [] turns = cc in
+        let c : nth (h .0 .ends) (h .2 .0) ≡ none = rw w refl in
+        let d = h .2 .1 in
+        grind arith
+    no-ends p (suc i) e h = let k = h .1 in grind arith
+    nobody : (i : ℕ) (e : Endpoint) → Holds [] i e → ⊥
+    nobody i e h = let k = h .1 in grind arith
+    only : (p : Process) (P : Worker → Type 0) → P (begun p [] [] turns) → (i : ℕ) (w : Worker) → nth (begun p [] [] turns ∷ []) i ≡ some w → P w
+    only p P k zero w e = let z : w ≡ begun p [] [] turns = cc in rw z k
+    only p P k (suc i) w e = grind arith
+    go : (o : Option Process) → nth (g .procs) 0 ≡ o → Sound g (first-worker o turns) 0
+    go none e = record { point = λ x. 0; fit = λ l z. absurd (omega arith); inv = record {
+        kept = λ i w h. absurd (nobody i (own-end 0) (grind arith));
+        ended = λ i w h. grind arith;
+        once = λ i w h. grind arith;
+        holder = λ i j e h k. absurd (nobody i e h);
+        made = λ i e h. absurd (nobody i e h);
+        held = λ e l z s. absurd (omega arith);
+        forest = forest-empty nobody } }
+    go (some p) e = record { point = λ x. 0; fit = λ l z. absurd (omega arith); inv = record {
+        kept = only p (λ w. Keeps-on g (w .todo) (places (λ x. 0) (w .ends))) (rw (gd .root p e) at (gd .bodies 0 p e));
+        ended = only p (λ w. w .state ≡ stopped → w .todo ≡ stop) (λ z. not-stopped (p .body) z);
+        once = only p (λ w. Once (w .ends)) (λ c d x y z. grind arith);
+        holder = λ i j x h k. absurd (no-ends p i x h);
+        made = λ i x h. absurd (no-ends p i x h);
+        held = λ x l z s. absurd (omega arith);
+        forest = forest-empty (no-ends p) } }
+
+-- every configuration that is reached is sound
+pub reached-sound : (g : Program) → Good g → (turns : ℕ) (a : Configuration) → Steps g (begin g turns) a → Sound g (a .workers) (a .next)
+reached-sound g gd turns a here = begin-sound g gd turns
+reached-sound g gd turns a (more {b} st s) = step-sound g gd b a (reached-sound g gd turns b st) s

@@ -7,3 +7,4 @@ pub mod Handing
 pub mod Forest
 pub mod Invariant
 pub mod Sound
+pub mod Circle

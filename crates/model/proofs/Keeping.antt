@@ -230,3 +230,17 @@ good g len h = record {
         let qe = q .1 in
         let pq : p ≡ q .0 = cc in
         rw pq (no-length (q .0 .talks) (and-left _ _ (q .2)))
+
+dual-over : (g : Program) (p q : Point) → Dual g p q → q ≡ over → p ≡ over
+dual-over g p q over-over h = refl
+dual-over g p q (gives-takes m) h = grind arith
+dual-over g p q (takes-gives m) h = grind arith
+dual-over g p q (chooses-offers m n) h = grind arith
+dual-over g p q (offers-chooses m n) h = grind arith
+-- where one side is not over, the other side is not
+pub not-over-turn : (g : Program) → Good g → (x y : ℕ) → Mutual g x y → (nth (g .points) x ≡ some over → ⊥) → nth (g .points) y ≡ some over → ⊥
+not-over-turn g gd x y m n h =
+    let f = gd .fits x y m in
+    let p = f .is-that in
+    let q : f .that ≡ over = cc in
+    n (f .is-this ∙ ap some (dual-over g (f .this) (f .that) (f .dual) q))

@@ -8,3 +8,4 @@ pub mod Forest
 pub mod Invariant
 pub mod Sound
 pub mod Circle
+pub mod Pictured

@@ -1,2 +1,12 @@
 -- The proofs of the theorems.
 pub mod Writing
+pub mod Lists
+pub mod Ends
+pub mod Keeping
+pub mod Patch
+pub mod Handing
+pub mod Forest
+pub mod Invariant
+pub mod Sound
+pub mod Circle
+pub mod Pictured

@@ -9,6 +9,7 @@ use lib.ListN.{length}
 use Rattle.model.specs.Program.{nth, Program}
 use Rattle.model.specs.Steps.{Worker, running, stopped, spent, Configuration, Step, Steps, begin}
 use Rattle.model.specs.Keeps.{kept}
+use Rattle.model.specs.Picture.{Picture}
 use Rattle.model.specs.Rows.{Reads}
 
 -- Words are the writing of at most one program.
@@ -32,6 +33,10 @@ Counted g turns (suc c) a = (b : Configuration) × Counted g turns c b × Step g
 -- Every order comes to an end, after a bounded number of steps.
 abbrev pub Ends : Type 0
 Ends = (s : List ℕ) (g : Program) (turns : ℕ) → Reads s g → (most : ℕ) × ((a : Configuration) (c : ℕ) → Counted g turns c a → c ≤ most)
+-- At every moment of every order, each line has its two ends with two different processes, at points that are each
+-- other's other side, and processes with lines between them form no circle.
+abbrev pub Pictured : Type 0
+Pictured = (s : List ℕ) (g : Program) (turns : ℕ) (a : Configuration) → Reads s g → kept g ≡ true → Steps g (begin g turns) a → Picture g a
 -- In a program that keeps to its conversations, whatever the order of steps, there is always a next step, until
 -- all have stopped, or some process is out of turns.
 abbrev pub Never-jams : Type 0

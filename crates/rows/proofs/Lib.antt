@@ -6,3 +6,6 @@ pub mod ExpressionLaws
 pub mod Sequences
 pub mod Passes
 pub mod Walks
+pub mod Series
+pub mod PointLaws
+pub mod ProcessLaws

@@ -19,6 +19,7 @@ use Rattle.rows.specs.declared.decode.Operator.the-variants.{Sum, Difference, 
 use Rattle.rows.specs.declared.decode.PointKind.{PointKind}
 use Rattle.rows.specs.declared.decode.PointKind.the-variants.{Over, Gives, Takes, Chooses, Offers}
 use Rattle.rows.specs.declared.decode.Head.{Head}
+use Rattle.model.specs.Program.{Point, over, gives, takes, chooses, offers}
 
 -- more than n words stand from place i on
 abbrev pub more-than : List ℕ → ℕ → ℕ → Bool
@@ -72,6 +73,14 @@ point-by s i w =
 abbrev pub pointAt : List ℕ → ℕ → Option PointKind
 pointAt s i = cond (more-than s i 0) (point-by s i (getD s i 0)) None
 
+-- the point that a kind of point is in the model
+abbrev pub said : PointKind → Point
+said Over = over
+said (Gives n) = gives n
+said (Takes n) = takes n
+said (Chooses n m) = chooses n m
+said (Offers n m) = offers n m
+
 -- the beginning of a process: how many conversations, their points, numbers handed in, variables
 abbrev pub headAt : List ℕ → ℕ → Option Head
 headAt s i = cond (leb (3 + getD s i 0) (length s - i))
@@ -112,3 +121,11 @@ PointWords s i (Gives n) = (getD s i 0 ≡ 1) × (getD s (i + 1) 0 ≡ n) × (i 
 PointWords s i (Takes n) = (getD s i 0 ≡ 2) × (getD s (i + 1) 0 ≡ n) × (i + 1 < length s)
 PointWords s i (Chooses n m) = (getD s i 0 ≡ 3) × (getD s (i + 1) 0 ≡ n) × (getD s (i + 2) 0 ≡ m) × (i + 2 < length s)
 PointWords s i (Offers n m) = (getD s i 0 ≡ 4) × (getD s (i + 1) 0 ≡ n) × (getD s (i + 2) 0 ≡ m) × (i + 2 < length s)
+-- the words that the beginning of a process found at place i stands for
+pub record HeadWords (s : List ℕ) (i : ℕ) (h : Head) : Type 0 where
+  pub count : getD s i 0 ≡ h .count
+  pub numbers : getD s (i + 1 + h .count) 0 ≡ h .numbers
+  pub variables : getD s (i + 2 + h .count) 0 ≡ h .variables
+  pub talks : h .talks ≡ i + 1
+  pub body : h .body ≡ i + 3 + h .count
+  pub within : h .body ≤ length s

@@ -2,3 +2,4 @@
 pub mod Decode
 pub mod Reading
 pub mod Mapped
+pub mod Sections

@@ -3,7 +3,7 @@
 // A place is an index into the words. An operand that has no fixed length is given by the place where it begins.
 ghost use mathlib.Core.Path.{_≡_};
 ghost use Rattle.std.specs.Slices.{found};
-ghost use Rattle.rows.specs.Decode.{instructionAt, callAt, termAt, pointAt, headAt, Words, CallWords, TermWords, PointWords};
+ghost use Rattle.rows.specs.Decode.{instructionAt, callAt, termAt, pointAt, headAt, Words, CallWords, TermWords, PointWords, HeadWords};
 
 // What a process does.
 #[derive(Clone, Copy)]
@@ -158,7 +158,8 @@ pub fn point_at(p: &[u32], at: usize) -> Option<PointKind>
 
 // The beginning of the process at a place, if its words are there.
 pub fn head_at(p: &[u32], at: usize) -> Option<Head>
-    ensures { λ r. ⌜ r ≡ headAt (now (p .entry)) at ⌝ }
+    ensures is { λ r. ⌜ r ≡ headAt (now (p .entry)) at ⌝ }
+    ensures words { λ r. ⌜ found r (λ x. HeadWords (now (p .entry)) at x) ⌝ }
 {
     if at >= p.len() {
         return None;

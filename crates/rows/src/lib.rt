@@ -3,3 +3,4 @@ pub mod decode;
 pub mod expressions;
 pub mod actions;
 pub mod map;
+pub mod sections;

@@ -9,3 +9,4 @@ pub mod Walks
 pub mod Series
 pub mod PointLaws
 pub mod ProcessLaws
+pub mod ProgramLaws

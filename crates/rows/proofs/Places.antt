@@ -1,11 +1,13 @@
 -- What stands from a place of a list on: its words, its length, and the list from a later place.
 use mathlib.Core.Path.{_≡_, refl, sym, ap, _∙_, subst}
 use mathlib.Core.List.{List, [], _∷_, _++_}
+use mathlib.Core.Option.{some}
 use Prim.Native.Nat.{ℕ, zero, suc, _+_, _-_, _<_, _≤_}
 use native.Mathlib.Nat.{add-zero}
 use native.Mathlib.Omega.{arith}
 use lib.ListN.{length, getD, take, drop, length-drop, take-append-drop}
 use lib.Seq.{drop-cons, getD-drop, drop-drop}
+use Rattle.model.specs.Program.{nth}
 
 -- the word k after the place
 pub word-at : {l : List ℕ} (s : List ℕ) (i k : ℕ) → drop i s ≡ l → getD s (i + k) 0 ≡ getD l k 0
@@ -36,3 +38,13 @@ drop-three s i h =
 -- a list of n words, and what follows it
 pub drop-list : (s : List ℕ) (i n : ℕ) → drop i s ≡ take n (drop i s) ++ drop (i + n) s
 drop-list s i n = sym (take-append-drop n (drop i s)) ∙ ap (λ (l : List ℕ). take n (drop i s) ++ l) (drop-drop n i s)
+
+-- the element at a place, as an option and with a default
+pub getD-nth : (xs : List ℕ) (i d : ℕ) {x : ℕ} → nth xs i ≡ some x → getD xs i d ≡ x
+getD-nth [] i d h = let z : _≡_ {A = ℕ} 0 1 = cc in absurd (omega arith)
+getD-nth (x ∷ xs) zero d h = cc
+getD-nth (x ∷ xs) (suc i) d h = getD-nth xs i d h
+pub nth-getD : (xs : List ℕ) (i d : ℕ) → i < length xs → nth xs i ≡ some (getD xs i d)
+nth-getD [] i d h = absurd (omega arith)
+nth-getD (x ∷ xs) zero d h = refl
+nth-getD (x ∷ xs) (suc i) d h = nth-getD xs i d (omega arith)

@@ -68,3 +68,64 @@ fn process_end(p: &[u32], at: usize, second: &mut [u16]) -> Option<usize>
         }
     }
 }
+
+// How many processes stand one after the other from a place to the end of the rows, if processes that keep the limits
+// do; the tables then have the place of each and the second ways of what it does.
+fn processes_end(p: &[u32], at: usize, places: &mut [u16], second: &mut [u16]) -> Option<usize>
+    requires begin { ⌜ at ≤ length (now p) ⌝ }
+    requires room { ⌜ 64 ≤ length (now places) ⌝ }
+    requires table { ⌜ length (now p) ≤ length (now second) ⌝ }
+    requires small { ⌜ length (now p) < 2 ^ 16 ⌝ }
+    ensures { λ r. ⌜ ProcessesEnd (now (p .entry)) (now (places .exit)) (now (second .exit)) at r ⌝ }
+{
+    let mut here = at;
+    let mut count = 0;
+    'each: while here < p.len() {
+        if count == 64 {
+            return None;
+        }
+        match process_end(p, here, second) {
+            None => return None,
+            Some(next) => {
+                places[count] = here as u16;
+                count += 1;
+                here = next;
+            }
+        }
+    }
+    Some(count)
+}
+
+// Whether the words are a program. If they are, the map is that of the program.
+pub fn read(program: &[u32], map: &mut Map) -> bool
+    ensures { λ r. ⌜ ReadSays (now (program .entry)) (now (map .exit)) r ⌝ }
+{
+    let words = program.len();
+    if words > 16384 {
+        return false;
+    }
+    if words == 0 {
+        return false;
+    }
+    let count = program[0] as usize;
+    if count > 256 {
+        return false;
+    }
+    match points_end(program, 1, count, &mut map.points) {
+        None => false,
+        Some(sides) => {
+            if words - sides < count {
+                return false;
+            }
+            match processes_end(program, sides + count, &mut map.processes, &mut map.second) {
+                None => false,
+                Some(processes) => {
+                    map.point_count = count;
+                    map.sides = sides;
+                    map.process_count = processes;
+                    true
+                }
+            }
+        }
+    }
+}

@@ -10,3 +10,4 @@ pub mod Series
 pub mod PointLaws
 pub mod ProcessLaws
 pub mod ProgramLaws
+pub mod Lookups

@@ -10,23 +10,14 @@ use Rattle.std.specs.declared.option.Option.the-variants.{Some, None}
 use Rattle.rows.specs.declared.decode.Head.{Head}
 use Rattle.rows.specs.Decode.{headAt, HeadWords}
 use Rattle.rows.specs.Reading.{Seconds, ActionAt, NoAction, ActionEnd, Same-below}
-use Rattle.rows.specs.Mapped.{ProcessAt}
+use Rattle.rows.specs.Mapped.{ProcessAt, HeadIs}
 use Rattle.rows.specs.Sections.{ProcessTo, NoProcess, ProcessEnd}
 use Rattle.rows.proofs.Places.{word-at, word-here, words-left, rest-at, drop-one, drop-two, drop-list}
 use Rattle.model.specs.Program.{Process}
 use Rattle.model.specs.Rows.{rowA, rowR, deep, new, Fine}
 use Rattle.model.proofs.Writing.{rowR-row}
 
--- The beginning of a process found at a place is that of process p, with the words x behind the process.
-pub record HeadIs (s : List ℕ) (i : ℕ) (h : Head) (p : Process) (x : List ℕ) : Type 0 where
-  pub count : h .count ≡ length (p .talks)
-  pub numbers : h .numbers ≡ p .nums
-  pub variables : h .variables ≡ p .vars
-  pub talks : drop (h .talks) s ≡ p .talks ++ (p .nums ∷ p .vars ∷ (rowA (p .body) ++ x))
-  pub body : drop (h .body) s ≡ rowA (p .body) ++ x
-  pub place : h .body ≡ i + 3 + length (p .talks)
-
-head-made : ℕ → Process → Head
+pub head-made : ℕ → Process → Head
 head-made i p = record { talks = i + 1; count = length (p .talks); numbers = p .nums; variables = p .vars; body = i + 3 + length (p .talks) }
 
 module _ (s : List ℕ) (i : ℕ) (p : Process) (x : List ℕ) (h : drop i s ≡ rowR p ++ x) where
@@ -43,7 +34,7 @@ module _ (s : List ℕ) (i : ℕ) (p : Process) (x : List ℕ) (h : drop i s ≡
   head-is : HeadIs s i (head-made i p) p x
   unfolding head-made
   head-is = record { count = refl; numbers = refl; variables = refl; talks = head-talks; body = head-body; place = refl }
-  head-found : headAt s i ≡ Some (head-made i p)
+  pub head-found : headAt s i ≡ Some (head-made i p)
   unfolding head-made
   head-found =
     let a = word-here s i head-row in

@@ -175,6 +175,10 @@ module _ (s table : List ℕ) (n sides : ℕ) (first : getD s 0 0 ≡ n) (a : Po
         let b2 : length os ≡ n = simp (length-take, length-drop) (omega arith) in
         let lt : i < n = omega arith in
         ap (λ (q : ℕ). getD s (q + i) 0) e5 ∙ (sym (getD-drop sides s i 0) ∙ (sym (getD-take n (drop sides s) i 0 lt) ∙ getD-nth os i 0 h));
+      room =
+        let within = a .within (omega arith) in
+        let long : length (front n (drop sides s)) ≡ n = simp (length-take, length-drop) (omega arith) in
+        omega arith;
       process-count = e6 ∙ sym (b .many);
       processes = λ i p h. subst (λ t. ProcessAt s t (getD (m .processes) i 0) p) (sym e3) (subst (λ t. ProcessAt s second (getD t i 0) p) (sym e2) (b .at i p h)) }
     pub program-read : (m : Map) → m .points ≡ table → m .processes ≡ places → m .second ≡ second → m .«point_count» ≡ n → m .sides ≡ sides → m .«process_count» ≡ k → ReadSays s m true

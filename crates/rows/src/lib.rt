@@ -4,3 +4,4 @@ pub mod expressions;
 pub mod actions;
 pub mod map;
 pub mod sections;
+pub mod lookup;

@@ -1,0 +1,2 @@
+-- The laws of judging.
+pub mod Conversing

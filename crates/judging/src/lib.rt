@@ -1,0 +1,3 @@
+// Decides whether a program that was read keeps to its conversations.
+pub mod conversations;
+pub mod standing;

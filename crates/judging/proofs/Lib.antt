@@ -1,2 +1,3 @@
 -- The laws of judging.
 pub mod Conversing
+pub mod VariableLaws

@@ -1,2 +1,3 @@
 -- What the contracts of the judge cite.
 pub mod Standing
+pub mod Judging

@@ -1,3 +1,4 @@
 // Decides whether a program that was read keeps to its conversations.
 pub mod conversations;
 pub mod standing;
+pub mod variables;

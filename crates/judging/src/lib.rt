@@ -2,3 +2,4 @@
 pub mod conversations;
 pub mod standing;
 pub mod variables;
+pub mod moves;

@@ -1,3 +1,4 @@
 -- The laws of judging.
 pub mod Conversing
 pub mod VariableLaws
+pub mod HandingLaws

@@ -3,3 +3,4 @@ pub mod conversations;
 pub mod standing;
 pub mod variables;
 pub mod moves;
+pub mod handing;

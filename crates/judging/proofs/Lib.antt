@@ -2,3 +2,5 @@
 pub mod Conversing
 pub mod VariableLaws
 pub mod HandingLaws
+pub mod ActionLaws
+pub mod CallLaws

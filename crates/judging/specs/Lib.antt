@@ -1,3 +1,4 @@
 -- What the contracts of the judge cite.
 pub mod Standing
 pub mod Judging
+pub mod Following

@@ -4,3 +4,6 @@ pub mod standing;
 pub mod variables;
 pub mod moves;
 pub mod handing;
+pub mod course;
+pub mod actions;
+pub mod calls;

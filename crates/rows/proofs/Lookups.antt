@@ -10,7 +10,8 @@ use Rattle.std.specs.declared.option.Option.the-variants.{Some, None}
 use Rattle.rows.specs.declared.decode.Head.{Head}
 use Rattle.rows.specs.declared.decode.PointKind.{PointKind}
 use Rattle.rows.specs.declared.map.Map.{Map}
-use Rattle.rows.specs.Decode.{said, pointAt, headAt}
+use Rattle.std.specs.Slices.{found}
+use Rattle.rows.specs.Decode.{said, pointAt, headAt, HeadWords}
 use Rattle.rows.specs.Reading.{Seconds}
 use Rattle.rows.specs.Mapped.{Known, Mapped, HeadIs, ProcessAt, PointIs, OtherIs, ProcessFound, ProcessIs}
 use Rattle.rows.proofs.Places.{nth-getD}
@@ -23,6 +24,10 @@ pub nth-past : {A : Type 0} (xs : List A) (i : ℕ) → length xs ≤ i → nth 
 nth-past [] i h = refl
 nth-past (x ∷ xs) zero h = absurd (omega arith)
 nth-past (x ∷ xs) (suc i) h = nth-past xs i (omega arith)
+
+pub head-within : (s : List ℕ) (i : ℕ) (r : Option Head) → found r (λ h. HeadWords s i h) → found r (λ h. h .talks + h .count ≤ length s)
+head-within s i None w = tt
+head-within s i (Some h) w = omega arith
 
 module _ (s : List ℕ) (m : Map) (g : Program) (known : Known s m g) (i : ℕ) where
   pub no-point : m .«point_count» ≤ i → nth (g .points) i ≡ none

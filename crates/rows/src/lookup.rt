@@ -1,6 +1,8 @@
 // Points and processes of a program that was read, by their numbers, in constant time.
 ghost use mathlib.Core.Path.{_≡_};
-ghost use lib.ListN.{getD};
+ghost use Prim.Native.Nat.{_+_, _≤_};
+ghost use lib.ListN.{getD, length};
+ghost use Rattle.std.specs.Slices.{found};
 ghost use Rattle.model.specs.Program.{Program};
 ghost use Rattle.rows.specs.Mapped.{Known, PointIs, OtherIs, ProcessIs};
 use crate::decode::Head;
@@ -49,7 +51,8 @@ pub fn other_of(p: &[u32], map: &Map, point: u32) -> Option<u32>
 
 // The beginning of a process, if it is there.
 pub fn process_of(p: &[u32], map: &Map, process: u32) -> Option<Head>
-    ensures { λ r. ⌜ ((g : Program) → Known (now (p .entry)) (now (map .entry)) g → ProcessIs (now (p .entry)) (now (map .entry) .second) g process r) ⌝ }
+    ensures within { λ r. ⌜ found r (λ h. h .talks + h .count ≤ length (now (p .entry))) ⌝ }
+    ensures is { λ r. ⌜ ((g : Program) → Known (now (p .entry)) (now (map .entry)) g → ProcessIs (now (p .entry)) (now (map .entry) .second) g process r) ⌝ }
 {
     let i = process as usize;
     if i >= map.process_count {

@@ -9,3 +9,5 @@ pub mod Invariant
 pub mod Sound
 pub mod Circle
 pub mod Pictured
+pub mod Progress
+pub mod Never

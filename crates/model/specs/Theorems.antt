@@ -7,9 +7,10 @@ use mathlib.Core.Option.{Option, some, none}
 use Prim.Native.Nat.{ℕ, zero, suc, _≤_}
 use lib.ListN.{length}
 use Rattle.model.specs.Program.{nth, Program}
-use Rattle.model.specs.Steps.{Worker, running, stopped, spent, Configuration, Step, Steps, begin}
+use Rattle.model.specs.Steps.{Endpoint, Worker, stopped, spent, Configuration, Step, Steps, begin}
 use Rattle.model.specs.Keeps.{kept}
 use Rattle.model.specs.Picture.{Picture}
+use Rattle.model.specs.Waiting.{Waits-at, Not-waiting, Hops, Meeting}
 use Rattle.model.specs.Rows.{Reads}
 
 -- Words are the writing of at most one program.
@@ -37,6 +38,15 @@ Ends = (s : List ℕ) (g : Program) (turns : ℕ) → Reads s g → (most : ℕ)
 -- other's other side, and processes with lines between them form no circle.
 abbrev pub Pictured : Type 0
 Pictured = (s : List ℕ) (g : Program) (turns : ℕ) (a : Configuration) → Reads s g → kept g ≡ true → Steps g (begin g turns) a → Picture g a
+-- Following what a process waits for comes, in finitely many hops, to one that does not wait, or to two that wait for
+-- each other and want what fits.
+abbrev pub Waiting-ends : Type 0
+Waiting-ends = (s : List ℕ) (g : Program) (turns : ℕ) (a : Configuration) → Reads s g → kept g ≡ true → Steps g (begin g turns) a → (i : ℕ) (e : Endpoint) → Waits-at (a .workers) i e →
+  (n : ℕ) × (k : ℕ) × Hops (a .workers) n i k × (Not-waiting (a .workers) k ⊎ ((j : ℕ) × Meeting (a .workers) k j))
+-- Where one process waits, and all that have not stopped do, some two wait for each other and want what fits.
+abbrev pub Two-that-wait : Type 0
+Two-that-wait = (s : List ℕ) (g : Program) (turns : ℕ) (a : Configuration) → Reads s g → kept g ≡ true → Steps g (begin g turns) a → (i : ℕ) (e : Endpoint) → Waits-at (a .workers) i e →
+  ((j : ℕ) (w : Worker) → nth (a .workers) j ≡ some w → (w .state ≡ stopped) ⊎ ((d : Endpoint) × Waits-at (a .workers) j d)) → (j : ℕ) × (k : ℕ) × Meeting (a .workers) j k
 -- In a program that keeps to its conversations, whatever the order of steps, there is always a next step, until
 -- all have stopped, or some process is out of turns.
 abbrev pub Never-jams : Type 0

@@ -11,3 +11,5 @@ pub mod Circle
 pub mod Pictured
 pub mod Progress
 pub mod Never
+pub mod Renaming
+pub mod Diamond

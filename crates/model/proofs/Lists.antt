@@ -54,6 +54,16 @@ same? (suc i) (suc j) = go (same? i j)
     go (inl e) = inl (ap suc e)
     go (inr d) = inr (λ e. d (omega arith))
 
+-- less or not
+pub below? : (i j : ℕ) → (i < j) ⊎ (j ≤ i)
+below? i zero = inr (omega arith)
+below? zero (suc j) = inl (omega arith)
+below? (suc i) (suc j) = go (below? i j)
+  where
+    go : (i < j) ⊎ (j ≤ i) → (suc i < suc j) ⊎ (suc j ≤ suc i)
+    go (inl h) = inl (omega arith)
+    go (inr h) = inr (omega arith)
+
 pub nth-put-split : {A : Type 0} (xs : List A) (i j : ℕ) (v : A) {x : A} → nth (put xs i v) j ≡ some x → ((i ≡ j) × (x ≡ v)) ⊎ ((i ≡ j → ⊥) × (nth xs j ≡ some x))
 nth-put-split xs i j v {x} h = go (same? i j)
   where

@@ -6,5 +6,6 @@ pub mod Keeps
 pub mod Picture
 pub mod Waiting
 pub mod Rows
+pub mod Same
 pub mod Theorems
 pub mod Examples

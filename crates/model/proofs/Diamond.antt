@@ -1,0 +1,260 @@
+-- Two different steps that can both be taken can be taken in either order.
+use mathlib.Core.Path.{_≡_, refl, sym, ap, _∙_}
+use mathlib.Core.Logic.{_⊎_, inl, inr}
+use mathlib.Core.Bool.{cond}
+use mathlib.Core.List.{List, [], _∷_, _++_, map}
+use mathlib.Core.Option.{Option, some, none}
+use Prim.Native.Nat.{ℕ, zero, suc, _+_, _≤_, _<_}
+use native.Mathlib.Nat.{add-zero}
+use native.Mathlib.Numerals.{add-one}
+use native.Mathlib.Omega.{arith}
+use lib.ListN.{length, length-append}
+use lib.Dec.{eqb}
+use Rattle.model.specs.Program.{nth, put, value, values, Action, stop, give, take, choose, offer, set, if, show, start, become, Process, Program}
+use Rattle.model.specs.Steps.{Endpoint, own-end, far-end, running, stopped, spent, Worker, Configuration, on, with-var, halted, begun, end, ends-of, without, only-first, after-alone, after-together, Alone, stops, sets, ifs, shows, starts, becomes, starts-spent, becomes-spent, Facing, Together, passes, agrees, Step, alone, together}
+use Rattle.model.specs.Waiting.{awaits}
+use Rattle.model.specs.Same.{Renumbering, renamed-end, renamed, Same}
+use Rattle.model.proofs.Lists.{same?, append-nil, nth-below, nth-put-same, nth-put-other, nth-put-split, length-put, put-append, put-put-other, nth-append-left, nth-snoc-last, nth-snoc-split}
+use Rattle.model.proofs.Patch.{patch, patch-same, patch-other, end-is}
+use Rattle.model.proofs.Keeping.{or-open}
+use Rattle.model.proofs.Invariant.{Side, Inv}
+use Rattle.model.proofs.Sound.{Sound}
+use Rattle.model.proofs.Renaming.{renamed-fixed, renamed-back, alone-renamed, same-of, same-sym}
+
+-- What a process does alone is a function of what it is.
+data Did : Type 0 where
+  did : Worker → List Worker → List ℕ → Did
+abbrev only : Worker → Option Did
+only w = some (did w [] [])
+abbrev started-as : ℕ → Worker → List ℕ → List ℕ → Action → ℕ → Option Process → Option Did
+started-as line w cs ns s l none = none
+started-as line w cs ns s l (some p) =
+    some (did (record { todo = s; vars = w .vars; ends = without (w .ends) cs ++ (some (own-end line) ∷ []); left = l; state = running }) (begun p (some (far-end line) ∷ ends-of (w .ends) cs) ns l ∷ []) [])
+abbrev became : Worker → List ℕ → List ℕ → ℕ → Option Process → Option Did
+became w cs ns l none = none
+became w cs ns l (some p) = only (begun p (ends-of (w .ends) cs) ns l)
+abbrev does : Program → ℕ → Worker → Action → ℕ → Option Did
+does g line w stop l = only (halted w stopped)
+does g line w (give c e s) l = none
+does g line w (take c x s) l = none
+does g line w (choose c k s) l = none
+does g line w (offer c s t) l = none
+does g line w (set x e s) l = only (with-var w x (value (w .vars) e) s)
+does g line w (if e s t) l = only (on w (cond (eqb (value (w .vars) e) 0) t s))
+does g line w (show e s) l = some (did (on w s) [] (value (w .vars) e ∷ []))
+does g line w (start f cs es s) zero = only (halted w spent)
+does g line w (start f cs es s) (suc l) = started-as line w cs (values (w .vars) es) s l (nth (g .procs) f)
+does g line w (become f cs es) zero = only (halted w spent)
+does g line w (become f cs es) (suc l) = became w cs (values (w .vars) es) l (nth (g .procs) f)
+
+alone-does : (g : Program) (line : ℕ) (w w′ : Worker) (vs : List Worker) (ns : List ℕ) → Alone g line w w′ vs ns → does g line w (w .todo) (w .left) ≡ some (did w′ vs ns)
+alone-does g line w w′ vs ns (stops t) = ap (λ s. does g line w s (w .left)) t
+alone-does g line w w′ vs ns (sets x e s t) = ap (λ s. does g line w s (w .left)) t
+alone-does g line w w′ vs ns (ifs e s u t) = ap (λ s. does g line w s (w .left)) t
+alone-does g line w w′ vs ns (shows e s t) = ap (λ s. does g line w s (w .left)) t
+alone-does g line w w′ vs ns (starts f cs es s p l t h e) =
+    ap (λ s. does g line w s (w .left)) t ∙ ap (does g line w (start f cs es s)) e ∙ ap (started-as line w cs (values (w .vars) es) s l) h
+alone-does g line w w′ vs ns (becomes f cs es p l t h e) =
+    ap (λ s. does g line w s (w .left)) t ∙ ap (does g line w (become f cs es)) e ∙ ap (became w cs (values (w .vars) es) l) h
+alone-does g line w w′ vs ns (starts-spent f cs es s t e) = ap (λ s. does g line w s (w .left)) t ∙ ap (does g line w (start f cs es s)) e
+alone-does g line w w′ vs ns (becomes-spent f cs es t e) = ap (λ s. does g line w s (w .left)) t ∙ ap (does g line w (become f cs es)) e
+
+alone-once : (g : Program) (line : ℕ) (w w′ w″ : Worker) (vs vs′ : List Worker) (ns ns′ : List ℕ) → Alone g line w w′ vs ns → Alone g line w w″ vs′ ns′ → (w′ ≡ w″) × (vs ≡ vs′) × (ns ≡ ns′)
+alone-once g line w w′ w″ vs vs′ ns ns′ st st′ =
+    let p = alone-does g line w w′ vs ns st in
+    let q = alone-does g line w w″ vs′ ns′ st′ in
+    (cc, cc, cc)
+-- who acts alone does not wait
+alone-free : (g : Program) (line : ℕ) (w w′ : Worker) (vs : List Worker) (ns : List ℕ) → Alone g line w w′ vs ns → awaits (w .todo) ≡ none
+alone-free g line w w′ vs ns (stops t) = ap awaits t
+alone-free g line w w′ vs ns (sets x e s t) = ap awaits t
+alone-free g line w w′ vs ns (ifs e s u t) = ap awaits t
+alone-free g line w w′ vs ns (shows e s t) = ap awaits t
+alone-free g line w w′ vs ns (starts f cs es s p l t h e) = ap awaits t
+alone-free g line w w′ vs ns (becomes f cs es p l t h e) = ap awaits t
+alone-free g line w w′ vs ns (starts-spent f cs es s t e) = ap awaits t
+alone-free g line w w′ vs ns (becomes-spent f cs es t e) = ap awaits t
+-- a process starts none, and then it does the same whatever the next line, or it starts one
+data Starting (g : Program) (w w′ : Worker) (ns : List ℕ) : List Worker → Type 0 where
+  no-start : ((line : ℕ) → Alone g line w w′ [] ns) → Starting g w w′ ns []
+  one-start : (u : Worker) → Starting g w w′ ns (u ∷ [])
+starting : (g : Program) (line : ℕ) (w w′ : Worker) (vs : List Worker) (ns : List ℕ) → Alone g line w w′ vs ns → Starting g w w′ ns vs
+starting g line w w′ vs ns (stops t) = no-start (λ l. stops t)
+starting g line w w′ vs ns (sets x e s t) = no-start (λ l. sets x e s t)
+starting g line w w′ vs ns (ifs e s u t) = no-start (λ l. ifs e s u t)
+starting g line w w′ vs ns (shows e s t) = no-start (λ l. shows e s t)
+starting g line w w′ vs ns (starts f cs es s p l t h e) = one-start _
+starting g line w w′ vs ns (becomes f cs es p l t h e) = no-start (λ l′. becomes f cs es p l t h e)
+starting g line w w′ vs ns (starts-spent f cs es s t e) = no-start (λ l. starts-spent f cs es s t e)
+starting g line w w′ vs ns (becomes-spent f cs es t e) = no-start (λ l. becomes-spent f cs es t e)
+
+-- What two processes do together is a function of what they are, and each has one part in it.
+together-once : (w v w′ v′ w″ v″ : Worker) → Together w v w′ v′ → Together w v w″ v″ → (w′ ≡ w″) × (v′ ≡ v″)
+together-once w v w′ v′ w″ v″ (passes c d x e s t p q f) (passes c′ d′ x′ e′ s′ t′ p′ q′ f′) =
+    let ss : s ≡ s′ = cc in
+    let ee : e ≡ e′ = cc in
+    let tt′ : t ≡ t′ = cc in
+    let xx : x ≡ x′ = cc in
+    (ap (on w) ss, cc)
+together-once w v w′ v′ w″ v″ (passes c d x e s t p q f) (agrees c′ d′ k s′ t′ u p′ q′ f′) = grind arith
+together-once w v w′ v′ w″ v″ (agrees c d k s t u p q f) (passes c′ d′ x e s′ t′ p′ q′ f′) = grind arith
+together-once w v w′ v′ w″ v″ (agrees c d k s t u p q f) (agrees c′ d′ k′ s′ t′ u′ p′ q′ f′) =
+    let ss : s ≡ s′ = cc in
+    let kk : k ≡ k′ = cc in
+    let tt′ : t ≡ t′ = cc in
+    let uu : u ≡ u′ = cc in
+    (ap (on w) ss, cc)
+together-roles : (w v u w′ v′ v″ u′ : Worker) → Together w v w′ v′ → Together v u v″ u′ → ⊥
+together-roles w v u w′ v′ v″ u′ (passes c d x e s t p q f) (passes c′ d′ x′ e′ s′ t′ p′ q′ f′) = grind arith
+together-roles w v u w′ v′ v″ u′ (passes c d x e s t p q f) (agrees c′ d′ k s′ t′ u″ p′ q′ f′) = grind arith
+together-roles w v u w′ v′ v″ u′ (agrees c d k s t u″ p q f) (passes c′ d′ x e s′ t′ p′ q′ f′) = grind arith
+together-roles w v u w′ v′ v″ u′ (agrees c d k s t u″ p q f) (agrees c′ d′ k′ s′ t′ u‴ p′ q′ f′) = grind arith
+-- the ends at which they do it
+record Between (w v : Worker) : Type 0 where
+  c : ℕ
+  d : ℕ
+  near : Endpoint
+  far : Endpoint
+  near-awaited : awaits (w .todo) ≡ some c
+  far-awaited : awaits (v .todo) ≡ some d
+  is-near : nth (w .ends) c ≡ some (some near)
+  is-far : nth (v .ends) d ≡ some (some far)
+  lines : near .line ≡ far .line
+  sides : near .side ≡ far .side → ⊥
+between : (w v w′ v′ : Worker) → Together w v w′ v′ → Between w v
+between w v w′ v′ (passes c d x e s t p q f) = record { c = c; d = d; near = f .a; far = f .b; near-awaited = ap awaits p; far-awaited = ap awaits q; is-near = or-open _ _ (f .is-a); is-far = or-open _ _ (f .is-b); lines = f .line; sides = f .sides }
+between w v w′ v′ (agrees c d k s t u p q f) = record { c = c; d = d; near = f .a; far = f .b; near-awaited = ap awaits p; far-awaited = ap awaits q; is-near = or-open _ _ (f .is-a); is-far = or-open _ _ (f .is-b); lines = f .line; sides = f .sides }
+
+-- they came to the same, or can come to the same by a step each
+abbrev pub Joins : Program → Configuration → Configuration → Type 0
+Joins g b c = (b ≡ c) ⊎ ((d : Configuration) × (e : Configuration) × Step g b d × Step g c e × Same d e)
+joins-turn : (g : Program) (b c : Configuration) → Joins g b c → Joins g c b
+joins-turn g b c (inl e) = inl (sym e)
+joins-turn g b c (inr x) = inr (x .1, x .0, x .3, x .2, same-sym (x .0) (x .1) (x .4))
+configuration-is : (a b : Configuration) → a .workers ≡ b .workers → a .next ≡ b .next → a .shown ≡ b .shown → a ≡ b
+configuration-is a b p q r = λ i. record { workers = p i; next = q i; shown = r i }
+-- of two processes one at most shows
+shown-swap : (i j : ℕ) (ns ms s : List ℕ) → (i ≡ j → ⊥) → (s ++ only-first i ns) ++ only-first j ms ≡ (s ++ only-first j ms) ++ only-first i ns
+shown-swap zero zero ns ms s d = absurd (d refl)
+shown-swap zero (suc j) ns ms s d = append-nil (s ++ ns) ∙ ap (λ (x : List ℕ). x ++ ns) (sym (append-nil s))
+shown-swap (suc i) zero ns ms s d = ap (λ (x : List ℕ). x ++ ms) (append-nil s) ∙ sym (append-nil (s ++ ms))
+shown-swap (suc i) (suc j) ns ms s d = refl
+-- the process at one place after another changed, and others came behind
+nth-after : (ws vs : List Worker) (i j : ℕ) (w v : Worker) → (i ≡ j → ⊥) → nth ws j ≡ some v → nth (put ws i w ++ vs) j ≡ some v
+nth-after ws vs i j w v d h = nth-append-left (put ws i w) vs j (nth-put-other ws i j w d ∙ h)
+
+-- two numbers next to each other, swapped
+abbrev swap : ℕ → ℕ → ℕ
+swap k = patch (patch (λ n. n) (suc k) k) k (suc k)
+swap-first : (k : ℕ) → swap k k ≡ suc k
+swap-first k = patch-same (patch (λ n. n) (suc k) k) k (suc k)
+swap-second : (k : ℕ) → swap k (suc k) ≡ k
+swap-second k = patch-other (patch (λ n. n) (suc k) k) k (suc k) (suc k) (λ e. omega arith) ∙ patch-same (λ n. n) (suc k) k
+swap-other : (k j : ℕ) → (j ≡ k → ⊥) → (j ≡ suc k → ⊥) → swap k j ≡ j
+swap-other k j d e = patch-other (patch (λ n. n) (suc k) k) k (suc k) j d ∙ patch-other (λ n. n) (suc k) k j e
+swap-twice : (k j : ℕ) → swap k (swap k j) ≡ j
+swap-twice k j = go (same? j k) (same? j (suc k))
+  where
+    go : (j ≡ k) ⊎ (j ≡ k → ⊥) → (j ≡ suc k) ⊎ (j ≡ suc k → ⊥) → swap k (swap k j) ≡ j
+    go (inl e) _ = ap (λ n. swap k (swap k n)) e ∙ ap (swap k) (swap-first k) ∙ swap-second k ∙ sym e
+    go (inr d) (inl e) = ap (λ n. swap k (swap k n)) e ∙ ap (swap k) (swap-second k) ∙ swap-first k ∙ sym e
+    go (inr d) (inr e) = ap (swap k) (swap-other k j d e) ∙ swap-other k j d e
+abbrev swapping : ℕ → Renumbering
+swapping k = record { to = swap k; from = swap k; there = swap-twice k; back = swap-twice k }
+
+module _ (g : Program) (a : Configuration) (sound : Sound g (a .workers) (a .next)) where
+  -- one of two processes starts none
+  alone-quiet : (i j : ℕ) (w w′ v v′ : Worker) (vs : List Worker) (ns ms : List ℕ) → (i ≡ j → ⊥) → nth (a .workers) i ≡ some w → nth (a .workers) j ≡ some v → w .state ≡ running → v .state ≡ running →
+    ((line : ℕ) → Alone g line w w′ [] ns) → Alone g (a .next) v v′ vs ms → Joins g (after-alone a i w′ [] ns) (after-alone a j v′ vs ms)
+  alone-quiet i j w w′ v v′ vs ns ms d h k r q st st′ = inr (_, _,
+      alone j v v′ vs ms (nth-after (a .workers) [] i j w′ v d k) q (rw add-zero st′), alone i w w′ [] ns (nth-after (a .workers) vs j i v′ w (λ e. d (sym e)) h) r (st (a .next + length vs)),
+      same-of _ _ (configuration-is _ _ workers-swap (omega arith) (shown-swap i j ns ms (a .shown) d)))
+    where
+      workers-swap : put (put (a .workers) i w′ ++ []) j v′ ++ vs ≡ put (put (a .workers) j v′ ++ vs) i w′ ++ []
+      workers-swap =
+          let b = nth-below (a .workers) i h in
+          let c = length-put (a .workers) j v′ in
+          let p = append-nil (put (a .workers) i w′) in
+          let q = append-nil (put (put (a .workers) j v′ ++ vs) i w′) in
+          let s = put-append (put (a .workers) j v′) vs i w′ (omega arith) in
+          let t = put-put-other (a .workers) i j w′ v′ d in
+          cc
+  -- both start one: the new processes, and the new lines, are swapped
+  alone-both : (i j : ℕ) (w w′ u v v′ z : Worker) (ns ms : List ℕ) → (i ≡ j → ⊥) → nth (a .workers) i ≡ some w → nth (a .workers) j ≡ some v → w .state ≡ running → v .state ≡ running →
+    Alone g (a .next) w w′ (u ∷ []) ns → Alone g (a .next) v v′ (z ∷ []) ms → Joins g (after-alone a i w′ (u ∷ []) ns) (after-alone a j v′ (z ∷ []) ms)
+  alone-both i j w w′ u v v′ z ns ms d h k r q st st′ = inr (_, _,
+      alone j v (renamed τ v′) (renamed τ z ∷ []) ms (nth-after (a .workers) (u ∷ []) i j w′ v d k) q (shifted j v v′ z ms k st′),
+      alone i w (renamed τ w′) (renamed τ u ∷ []) ns (nth-after (a .workers) (z ∷ []) j i v′ w (λ e. d (sym e)) h) r (shifted i w w′ u ns h st), same)
+    where
+      τ : ℕ → ℕ
+      τ = swap (a .next)
+      old-line : (l : ℕ) → l < a .next → τ l ≡ l
+      old-line l b = swap-other (a .next) l (λ e. omega arith) (λ e. omega arith)
+      old-fixed : (k : ℕ) (x : Worker) → nth (a .workers) k ≡ some x → renamed τ x ≡ x
+      old-fixed k x h = renamed-fixed τ x (λ c e y. old-line (e .line) (sound .inv .made k e (x, h, (c, y)) .0))
+      shifted : (k : ℕ) (x x′ y : Worker) (ls : List ℕ) → nth (a .workers) k ≡ some x → Alone g (a .next) x x′ (y ∷ []) ls → Alone g (a .next + 1) x (renamed τ x′) (renamed τ y ∷ []) ls
+      shifted k x x′ y ls h st = rw add-one (rw (old-fixed k x h, swap-first (a .next)) at (alone-renamed g τ (a .next) x x′ (y ∷ []) ls st))
+      twice : (x : Worker) → renamed τ (renamed τ x) ≡ x
+      twice x = renamed-back τ τ x (swap-twice (a .next))
+      i≢j : i ≡ j → ⊥
+      i≢j = d
+      b-below : i < length (a .workers)
+      b-below = nth-below (a .workers) i h
+      c-below : j < length (a .workers)
+      c-below = nth-below (a .workers) j k
+      D : List Worker
+      D = put (put (a .workers) i w′) j (renamed τ v′)
+      E : List Worker
+      E = put (put (a .workers) j v′) i (renamed τ w′)
+      D-length : length D ≡ length (a .workers)
+      D-length = length-put (put (a .workers) i w′) j (renamed τ v′) ∙ length-put (a .workers) i w′
+      E-length : length E ≡ length (a .workers)
+      E-length = length-put (put (a .workers) j v′) i (renamed τ w′) ∙ length-put (a .workers) j v′
+      D-is : put (put (a .workers) i w′ ++ (u ∷ [])) j (renamed τ v′) ≡ D ++ (u ∷ [])
+      D-is = let l = length-put (a .workers) i w′ in let b = c-below in put-append (put (a .workers) i w′) (u ∷ []) j (renamed τ v′) (omega arith)
+      E-is : put (put (a .workers) j v′ ++ (z ∷ [])) i (renamed τ w′) ≡ E ++ (z ∷ [])
+      E-is = let l = length-put (a .workers) j v′ in let b = b-below in put-append (put (a .workers) j v′) (z ∷ []) i (renamed τ w′) (omega arith)
+      old : (m : ℕ) (y : Worker) → nth D m ≡ some y → nth E m ≡ some (renamed τ y)
+      old m y x = one (nth-put-split (put (a .workers) i w′) j m (renamed τ v′) x)
+        where
+          two : (j ≡ m → ⊥) → ((i ≡ m) × (y ≡ w′)) ⊎ ((i ≡ m → ⊥) × (nth (a .workers) m ≡ some y)) → nth E m ≡ some (renamed τ y)
+          two jm (inl p) = rw (← (p .0), p .1) (nth-put-same (put (a .workers) j v′) i (renamed τ w′) (nth-put-other (a .workers) j i v′ (λ e. i≢j (sym e)) ∙ h))
+          two jm (inr p) = nth-put-other (put (a .workers) j v′) i m (renamed τ w′) (p .0) ∙ nth-put-other (a .workers) j m v′ jm ∙ p .1 ∙ ap some (sym (old-fixed m y (p .1)))
+          one : ((j ≡ m) × (y ≡ renamed τ v′)) ⊎ ((j ≡ m → ⊥) × (nth (put (a .workers) i w′) m ≡ some y)) → nth E m ≡ some (renamed τ y)
+          one (inl p) = rw (← (p .0), p .1, twice v′) (nth-put-other (put (a .workers) j v′) i j (renamed τ w′) i≢j ∙ nth-put-same (a .workers) j v′ k)
+          one (inr p) = two (p .0) (nth-put-split (a .workers) i m w′ (p .1))
+      each : (m : ℕ) (y : Worker) → nth ((D ++ (u ∷ [])) ++ (renamed τ z ∷ [])) m ≡ some y → nth ((E ++ (z ∷ [])) ++ (renamed τ u ∷ [])) (swap (length (a .workers)) m) ≡ some (renamed τ y)
+      each m y x = one (nth-snoc-split (D ++ (u ∷ [])) (renamed τ z) m x)
+        where
+          before : nth D m ≡ some y → nth ((E ++ (z ∷ [])) ++ (renamed τ u ∷ [])) (swap (length (a .workers)) m) ≡ some (renamed τ y)
+          before p =
+              let l = nth-below D m p in
+              let l′ = D-length in
+              rw (swap-other (length (a .workers)) m (λ e. omega arith) (λ e. omega arith)) (nth-append-left (E ++ (z ∷ [])) _ m (nth-append-left E _ m (old m y p)))
+          two : (nth D m ≡ some y) ⊎ ((m ≡ length D) × (y ≡ u)) → nth ((E ++ (z ∷ [])) ++ (renamed τ u ∷ [])) (swap (length (a .workers)) m) ≡ some (renamed τ y)
+          two (inl p) = before p
+          two (inr p) =
+              let l : swap (length (a .workers)) m ≡ length (E ++ (z ∷ [])) = ap (swap (length (a .workers))) (p .0 ∙ D-length) ∙ swap-first (length (a .workers)) ∙ last-of in
+              rw (l, p .1) (nth-snoc-last (E ++ (z ∷ [])) (renamed τ u))
+            where
+              last-of : suc (length (a .workers)) ≡ length (E ++ (z ∷ []))
+              last-of = let q = length-append E (z ∷ []) in let t = E-length in omega arith
+          one : (nth (D ++ (u ∷ [])) m ≡ some y) ⊎ ((m ≡ length (D ++ (u ∷ []))) × (y ≡ renamed τ z)) → nth ((E ++ (z ∷ [])) ++ (renamed τ u ∷ [])) (swap (length (a .workers)) m) ≡ some (renamed τ y)
+          one (inl p) = two (nth-snoc-split D u m p)
+          one (inr p) =
+              let l : swap (length (a .workers)) m ≡ length E = ap (swap (length (a .workers))) (p .0 ∙ last-of) ∙ swap-second (length (a .workers)) ∙ sym E-length in
+              rw (l, p .1, twice z) (nth-append-left (E ++ (z ∷ [])) _ (length E) (nth-snoc-last E z))
+            where
+              last-of : length (D ++ (u ∷ [])) ≡ suc (length (a .workers))
+              last-of = let q = length-append D (u ∷ []) in let t = D-length in omega arith
+      count-D : length ((D ++ (u ∷ [])) ++ (renamed τ z ∷ [])) ≡ suc (suc (length (a .workers)))
+      count-D = let p = length-append (D ++ (u ∷ [])) (renamed τ z ∷ []) in let q = length-append D (u ∷ []) in let t = D-length in omega arith
+      count-E : length ((E ++ (z ∷ [])) ++ (renamed τ u ∷ [])) ≡ suc (suc (length (a .workers)))
+      count-E = let p = length-append (E ++ (z ∷ [])) (renamed τ u ∷ []) in let q = length-append E (z ∷ []) in let t = E-length in omega arith
+      same : Same (after-alone (after-alone a i w′ (u ∷ []) ns) j (renamed τ v′) (renamed τ z ∷ []) ms) (after-alone (after-alone a j v′ (z ∷ []) ms) i (renamed τ w′) (renamed τ u ∷ []) ns)
+      same = rw (D-is, E-is) (record {
+          processes = swapping (length (a .workers)); lines = swapping (a .next);
+          first = swap-other (length (a .workers)) 0 (λ e. omega (arith, b-below)) (λ e. omega arith);
+          new-process = λ m l. swap-other (length (a .workers)) m (λ e. omega (arith, count-D)) (λ e. omega (arith, count-D));
+          new-line = λ m l. swap-other (a .next) m (λ e. omega arith) (λ e. omega arith);
+          counts = count-D ∙ sym count-E; nexts = refl; showns = shown-swap i j ns ms (a .shown) i≢j; each = each })

@@ -258,3 +258,134 @@ module _ (g : Program) (a : Configuration) (sound : Sound g (a .workers) (a .nex
           new-process = λ m l. swap-other (length (a .workers)) m (λ e. omega (arith, count-D)) (λ e. omega (arith, count-D));
           new-line = λ m l. swap-other (a .next) m (λ e. omega arith) (λ e. omega arith);
           counts = count-D ∙ sym count-E; nexts = refl; showns = shown-swap i j ns ms (a .shown) i≢j; each = each })
+
+  alone-alone : (i j : ℕ) (w w′ v v′ : Worker) (us vs : List Worker) (ns ms : List ℕ) → (i ≡ j → ⊥) → nth (a .workers) i ≡ some w → nth (a .workers) j ≡ some v → w .state ≡ running → v .state ≡ running →
+    Alone g (a .next) w w′ us ns → Alone g (a .next) v v′ vs ms → Starting g w w′ ns us → Starting g v v′ ms vs → Joins g (after-alone a i w′ us ns) (after-alone a j v′ vs ms)
+  alone-alone i j w w′ v v′ us vs ns ms d h k r q st st′ (no-start x) y = alone-quiet i j w w′ v v′ vs ns ms d h k r q x st′
+  alone-alone i j w w′ v v′ us vs ns ms d h k r q st st′ (one-start u) (no-start y) = joins-turn g _ _ (alone-quiet j i v v′ w w′ (u ∷ []) ms ns (λ e. d (sym e)) k h q r y st)
+  alone-alone i j w w′ v v′ us vs ns ms d h k r q st st′ (one-start u) (one-start z) = alone-both i j w w′ u v v′ z ns ms d h k r q st st′
+
+  -- a process that acts alone, and two others
+  alone-together : (i j k : ℕ) (w w′ v v′ u u′ : Worker) (ws : List Worker) (ns : List ℕ) → nth (a .workers) i ≡ some w → nth (a .workers) j ≡ some v → nth (a .workers) k ≡ some u →
+    w .state ≡ running → v .state ≡ running → u .state ≡ running → (j ≡ k → ⊥) → Alone g (a .next) w w′ ws ns → Together v u v′ u′ → Joins g (after-alone a i w′ ws ns) (after-together a j k v′ u′)
+  alone-together i j k w w′ v v′ u u′ ws ns hi hj hk r q s d st st′ = inr (_, _,
+      together j k v u v′ u′ d (nth-after (a .workers) ws i j w′ v i≢j hj) (nth-after (a .workers) ws i k w′ u i≢k hk) q s st′,
+      alone i w w′ ws ns (nth-put-other (put (a .workers) j v′) k i u′ (λ e. i≢k (sym e)) ∙ nth-put-other (a .workers) j i v′ (λ e. i≢j (sym e)) ∙ hi) r st,
+      same-of _ _ (configuration-is _ _ workers-swap refl refl))
+    where
+      b : Between v u
+      b = between v u v′ u′ st′
+      free : awaits (w .todo) ≡ none
+      free = alone-free g (a .next) w w′ ws ns st
+      i≢j : i ≡ j → ⊥
+      i≢j e = let p : v ≡ w = same in let x = b .near-awaited in let y = free in let z = ap (λ (m : Worker). awaits (m .todo)) p in grind arith
+        where
+          same : v ≡ w
+          same = let x = ap (nth (a .workers)) e in cc
+      i≢k : i ≡ k → ⊥
+      i≢k e = let p : u ≡ w = same in let x = b .far-awaited in let y = free in let z = ap (λ (m : Worker). awaits (m .todo)) p in grind arith
+        where
+          same : u ≡ w
+          same = let x = ap (nth (a .workers)) e in cc
+      workers-swap : put (put (put (a .workers) i w′ ++ ws) j v′) k u′ ≡ put (put (put (a .workers) j v′) k u′) i w′ ++ ws
+      workers-swap =
+          let bj = nth-below (a .workers) j hj in
+          let bk = nth-below (a .workers) k hk in
+          let li = length-put (a .workers) i w′ in
+          let lj = length-put (put (a .workers) i w′) j v′ in
+          let p = put-append (put (a .workers) i w′) ws j v′ (omega arith) in
+          let q = put-append (put (put (a .workers) i w′) j v′) ws k u′ (omega arith) in
+          let s = put-put-other (a .workers) i j w′ v′ i≢j in
+          let t = put-put-other (put (a .workers) j v′) i k w′ u′ i≢k in
+          cc
+
+  -- who faces an end is one process
+  facing-once : (j j′ : ℕ) (v v′ : Worker) (e e′ d d′ : Endpoint) (c c′ : ℕ) → nth (a .workers) j ≡ some v → nth (a .workers) j′ ≡ some v′ → nth (v .ends) c ≡ some (some d) → nth (v′ .ends) c′ ≡ some (some d′) →
+    e ≡ e′ → e .line ≡ d .line → (e .side ≡ d .side → ⊥) → e′ .line ≡ d′ .line → (e′ .side ≡ d′ .side → ⊥) → Side (e .side) → j ≡ j′
+  facing-once j j′ v v′ e e′ d d′ c c′ h h′ x x′ ee l s l′ s′ se =
+      sound .inv .holder j j′ d (v, h, (c, x)) (v′, h′, (c′, rw same x′))
+    where
+      side-of : Side (e .side) → Side (d .side) → Side (d′ .side) → d .side ≡ d′ .side
+      side-of (inl p) (inl q) t = absurd (s (p ∙ sym q))
+      side-of (inl p) (inr q) (inl t) = absurd (s′ (ap (λ (x : Endpoint). x .side) (sym ee) ∙ p ∙ sym t))
+      side-of (inl p) (inr q) (inr t) = q ∙ sym t
+      side-of (inr p) (inl q) (inl t) = q ∙ sym t
+      side-of (inr p) (inl q) (inr t) = absurd (s′ (ap (λ (x : Endpoint). x .side) (sym ee) ∙ p ∙ sym t))
+      side-of (inr p) (inr q) t = absurd (s (p ∙ sym q))
+      same : d ≡ d′
+      same = end-is d d′ (sym l ∙ ap (λ (x : Endpoint). x .line) ee ∙ l′) (side-of se (sound .inv .made j d (v, h, (c, x)) .1) (sound .inv .made j′ d′ (v′, h′, (c′, x′)) .1))
+
+  -- two and two
+  together-together : (i j k l : ℕ) (w w′ v v′ x x′ y y′ : Worker) → nth (a .workers) i ≡ some w → nth (a .workers) j ≡ some v → nth (a .workers) k ≡ some x → nth (a .workers) l ≡ some y →
+    w .state ≡ running → v .state ≡ running → x .state ≡ running → y .state ≡ running → (i ≡ j → ⊥) → (k ≡ l → ⊥) → Together w v w′ v′ → Together x y x′ y′ →
+    Joins g (after-together a i j w′ v′) (after-together a k l x′ y′)
+  together-together i j k l w w′ v v′ x x′ y y′ hi hj hk hl r q s t d f st st′ = go (same? i k)
+    where
+      b : Between w v
+      b = between w v w′ v′ st
+      b′ : Between x y
+      b′ = between x y x′ y′ st′
+      at-one : (m n : ℕ) (u z : Worker) → m ≡ n → nth (a .workers) m ≡ some u → nth (a .workers) n ≡ some z → u ≡ z
+      at-one m n u z e p q = let h = ap (nth (a .workers)) e in cc
+      one-end : (u z : Worker) (c c′ : ℕ) (e e′ : Endpoint) → u ≡ z → awaits (u .todo) ≡ some c → awaits (z .todo) ≡ some c′ → nth (u .ends) c ≡ some (some e) → nth (z .ends) c′ ≡ some (some e′) → e ≡ e′
+      one-end u z c c′ e e′ p m n o o′ = let m′ : awaits (z .todo) ≡ some c = rw p at m in let cc′ : c ≡ c′ = cc in let o″ : nth (z .ends) c ≡ some (some e) = rw p at o in let h = ap (nth (z .ends)) cc′ in cc
+      right : i ≡ k → j ≡ l
+      right e =
+          facing-once j l v y (b .near) (b′ .near) (b .far) (b′ .far) (b .d) (b′ .d) hj hl (b .is-far) (b′ .is-far)
+            (one-end w x (b .c) (b′ .c) (b .near) (b′ .near) (at-one i k w x e hi hk) (b .near-awaited) (b′ .near-awaited) (b .is-near) (b′ .is-near))
+            (b .lines) (b .sides) (b′ .lines) (b′ .sides) (sound .inv .made i (b .near) (w, hi, (b .c, b .is-near)) .1)
+      left : j ≡ l → i ≡ k
+      left e =
+          facing-once i k w x (b .far) (b′ .far) (b .near) (b′ .near) (b .c) (b′ .c) hi hk (b .is-near) (b′ .is-near)
+            (one-end v y (b .d) (b′ .d) (b .far) (b′ .far) (at-one j l v y e hj hl) (b .far-awaited) (b′ .far-awaited) (b .is-far) (b′ .is-far))
+            (sym (b .lines)) (λ z. b .sides (sym z)) (sym (b′ .lines)) (λ z. b′ .sides (sym z)) (sound .inv .made j (b .far) (v, hj, (b .d, b .is-far)) .1)
+      same-two : i ≡ k → j ≡ l → after-together a i j w′ v′ ≡ after-together a k l x′ y′
+      same-two e e′ =
+          let p = together-once w v w′ v′ x′ y′ st (rw (← at-one i k w x e hi hk, ← at-one j l v y e′ hj hl) at st′) in
+          let p0 = p .0 in
+          let p1 = p .1 in
+          let h : put (put (a .workers) i w′) j v′ ≡ put (put (a .workers) k x′) l y′ = cc in
+          configuration-is _ _ h refl refl
+      i≢l : i ≡ l → ⊥
+      i≢l e = together-roles x y v x′ y′ w′ v′ st′ (rw (at-one i l w y e hi hl) at st)
+      j≢k : j ≡ k → ⊥
+      j≢k e = together-roles w v y w′ v′ x′ y′ st (rw (← at-one j k v x e hj hk) at st′)
+      four : (i ≡ k → ⊥) → (j ≡ l → ⊥) → Joins g (after-together a i j w′ v′) (after-together a k l x′ y′)
+      four i≢k j≢l = inr (_, _,
+          together k l x y x′ y′ f (two k i≢k j≢k ∙ hk) (two l i≢l j≢l ∙ hl) s t st′,
+          together i j w v w′ v′ d (two′ i i≢k i≢l ∙ hi) (two′ j j≢k j≢l ∙ hj) r q st,
+          same-of _ _ (configuration-is _ _ workers-swap refl refl))
+        where
+          two : (m : ℕ) → (i ≡ m → ⊥) → (j ≡ m → ⊥) → nth (put (put (a .workers) i w′) j v′) m ≡ nth (a .workers) m
+          two m p q = nth-put-other (put (a .workers) i w′) j m v′ q ∙ nth-put-other (a .workers) i m w′ p
+          two′ : (m : ℕ) → (m ≡ k → ⊥) → (m ≡ l → ⊥) → nth (put (put (a .workers) k x′) l y′) m ≡ nth (a .workers) m
+          two′ m p q = nth-put-other (put (a .workers) k x′) l m y′ (λ e. q (sym e)) ∙ nth-put-other (a .workers) k m x′ (λ e. p (sym e))
+          workers-swap : put (put (put (put (a .workers) i w′) j v′) k x′) l y′ ≡ put (put (put (put (a .workers) k x′) l y′) i w′) j v′
+          workers-swap =
+              let p = put-put-other (put (a .workers) i w′) j k v′ x′ j≢k in
+              let q = put-put-other (a .workers) i k w′ x′ i≢k in
+              let m = put-put-other (put (put (a .workers) k x′) i w′) j l v′ y′ j≢l in
+              let n = put-put-other (put (a .workers) k x′) i l w′ y′ i≢l in
+              cc
+      go : (i ≡ k) ⊎ (i ≡ k → ⊥) → Joins g (after-together a i j w′ v′) (after-together a k l x′ y′)
+      go (inl e) = inl (same-two e (right e))
+      go (inr n) = four n (λ e. n (left e))
+
+  pub diamond : (b c : Configuration) → Step g a b → Step g a c → Joins g b c
+  diamond b c (alone i w w′ us ns h r st) (alone j v v′ vs ms k q st′) = go (same? i j)
+    where
+      go : (i ≡ j) ⊎ (i ≡ j → ⊥) → Joins g (after-alone a i w′ us ns) (after-alone a j v′ vs ms)
+      go (inl e) =
+          let wv : w ≡ v = at-one in
+          let p = alone-once g (a .next) v w′ v′ us vs ns ms (rw wv at st) st′ in
+          let p0 = p .0 in
+          let p1 = p .1 in
+          let p2 = p .2 in
+          inl (cc)
+        where
+          at-one : w ≡ v
+          at-one = let x = ap (nth (a .workers)) e in cc
+      go (inr d) = alone-alone i j w w′ v v′ us vs ns ms d h k r q st st′ (starting g (a .next) w w′ us ns st) (starting g (a .next) v v′ vs ms st′)
+  diamond b c (alone i w w′ us ns h r st) (together j k v u v′ u′ d hj hk q s st′) = alone-together i j k w w′ v v′ u u′ us ns h hj hk r q s d st st′
+  diamond b c (together j k v u v′ u′ d hj hk q s st′) (alone i w w′ us ns h r st) = joins-turn g _ _ (alone-together i j k w w′ v v′ u u′ us ns h hj hk r q s d st st′)
+  diamond b c (together i j w v w′ v′ d hi hj r q st) (together k l x y x′ y′ f hk hl s t st′) = together-together i j k l w w′ v v′ x x′ y y′ hi hj hk hl r q s t d f st st′

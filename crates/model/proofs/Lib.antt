@@ -13,3 +13,4 @@ pub mod Progress
 pub mod Never
 pub mod Renaming
 pub mod Diamond
+pub mod Orders

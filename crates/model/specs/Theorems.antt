@@ -11,6 +11,7 @@ use Rattle.model.specs.Steps.{Endpoint, Worker, stopped, spent, Configuration,
 use Rattle.model.specs.Keeps.{kept}
 use Rattle.model.specs.Picture.{Picture}
 use Rattle.model.specs.Waiting.{Waits-at, Not-waiting, Hops, Meeting}
+use Rattle.model.specs.Same.{Same}
 use Rattle.model.specs.Rows.{Reads}
 
 -- Words are the writing of at most one program.
@@ -55,3 +56,22 @@ Never-jams = (s : List ℕ) (g : Program) (turns : ℕ) (a : Configuration) → 
 abbrev pub Any-order : Type 0
 Any-order = (s : List ℕ) (g : Program) (turns : ℕ) (a b : Configuration) → Reads s g → kept g ≡ true → Steps g (begin g turns) a → Steps g (begin g turns) b → Still g a → Still g b →
   (a .shown ≡ b .shown) × (length (a .workers) ≡ length (b .workers)) × (Out a ↔ Out b)
+-- Two steps that can both be taken come to the same, or can be taken in either order, with the same after both but for
+-- the numbers of processes and lines.
+abbrev pub Either-order : Type 0
+Either-order = (s : List ℕ) (g : Program) (turns : ℕ) (a b c : Configuration) → Reads s g → kept g ≡ true → Steps g (begin g turns) a → Step g a b → Step g a c →
+  (b ≡ c) ⊎ ((d : Configuration) × (e : Configuration) × Step g b d × Step g c e × Same d e)
+-- All orders come to the same end but for numbers: each process of one has one in the other, with the same to do, the
+-- same variables and turns, and in the same state.
+abbrev pub Same-end : Type 0
+Same-end = (s : List ℕ) (g : Program) (turns : ℕ) (a b : Configuration) → Reads s g → kept g ≡ true → Steps g (begin g turns) a → Steps g (begin g turns) b → Still g a → Still g b → Same a b
+-- All orders take as many steps.
+abbrev pub Same-steps : Type 0
+Same-steps = (s : List ℕ) (g : Program) (turns m n : ℕ) (a b : Configuration) → Reads s g → kept g ≡ true → Counted g turns m a → Counted g turns n b → Still g a → Still g b → m ≡ n
+-- Every configuration on the way can still reach the end that another order came to.
+abbrev pub Confluent : Type 0
+Confluent = (s : List ℕ) (g : Program) (turns : ℕ) (a b : Configuration) → Reads s g → kept g ≡ true → Steps g (begin g turns) a → Steps g (begin g turns) b → Still g b →
+  (c : Configuration) × Steps g a c × Still g c × Same b c
+-- So there are never more processes on the way of one order than at the end of another.
+abbrev pub Crowded-alike : Type 0
+Crowded-alike = (s : List ℕ) (g : Program) (turns : ℕ) (a b : Configuration) → Reads s g → kept g ≡ true → Steps g (begin g turns) a → Steps g (begin g turns) b → Still g b → length (a .workers) ≤ length (b .workers)

@@ -14,3 +14,4 @@ pub mod Never
 pub mod Renaming
 pub mod Diamond
 pub mod Orders
+pub mod Shop

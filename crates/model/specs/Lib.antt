@@ -7,5 +7,5 @@ pub mod Picture
 pub mod Waiting
 pub mod Rows
 pub mod Same
-pub mod Theorems
 pub mod Examples
+pub mod Theorems

@@ -2,7 +2,7 @@
 use mathlib.Core.Path.{_≡_}
 use mathlib.Core.Logic.{_⊎_, _↔_}
 use mathlib.Core.Bool.{true}
-use mathlib.Core.List.{List}
+use mathlib.Core.List.{List, [], _∷_}
 use mathlib.Core.Option.{Option, some, none}
 use Prim.Native.Nat.{ℕ, zero, suc, _≤_}
 use lib.ListN.{length}
@@ -12,7 +12,8 @@ use Rattle.model.specs.Keeps.{kept}
 use Rattle.model.specs.Picture.{Picture}
 use Rattle.model.specs.Waiting.{Waits-at, Not-waiting, Hops, Meeting}
 use Rattle.model.specs.Same.{Same}
-use Rattle.model.specs.Rows.{Reads}
+use Rattle.model.specs.Rows.{rowG, Reads}
+use Rattle.model.specs.Examples.{shop}
 
 -- Words are the writing of at most one program.
 abbrev pub One-program : Type 0
@@ -75,3 +76,15 @@ Confluent = (s : List ℕ) (g : Program) (turns : ℕ) (a b : Configuration) →
 -- So there are never more processes on the way of one order than at the end of another.
 abbrev pub Crowded-alike : Type 0
 Crowded-alike = (s : List ℕ) (g : Program) (turns : ℕ) (a b : Configuration) → Reads s g → kept g ≡ true → Steps g (begin g turns) a → Steps g (begin g turns) b → Still g b → length (a .workers) ≤ length (b .workers)
+
+-- That all this can be met: the clerk and the till are a program that keeps; with one turn there is an order in which all
+-- stop, and in all orders 42 is shown.
+pub record Shop-shows : Type 0 where
+  pub reads : Reads (rowG shop) shop
+  pub keeps : kept shop ≡ true
+  pub end : Configuration
+  pub run : Steps shop (begin shop 1) end
+  pub still : Still shop end
+  pub stops : All-stopped end
+  pub shows : end .shown ≡ 42 ∷ []
+  pub always : (a : Configuration) → Steps shop (begin shop 1) a → Still shop a → a .shown ≡ 42 ∷ []

@@ -6,6 +6,7 @@ ghost use lib.ListN.{length};
 ghost use Rattle.model.specs.Examples.{shop, hasty};
 ghost use Rattle.model.specs.Keeps.{kept};
 ghost use Rattle.model.specs.Rows.{rowG};
+ghost use Rattle.model.specs.Theorems.{Shop-shows, Ends, Pictured, Waiting-ends, Two-that-wait, Never-jams, Either-order, Same-end, Same-steps, Any-order, Confluent, Crowded-alike};
 
 // The clerk and the till keep to their conversation, and their rows are this many words; the hasty clerk is careless.
 pub fn shop_words() -> u32
@@ -14,4 +15,40 @@ pub fn shop_words() -> u32
     ensures careless { λ _. ⌜ kept hasty ≡ false ⌝ }
 {
     63
+}
+
+// Every order of steps comes to an end.
+pub fn every_order_ends() -> u32
+    ensures { λ _. ⌜ Ends ⌝ }
+{
+    0
+}
+
+// Of programs that keep, at every moment: lines and who holds their ends, who waits for whom, and that no order jams.
+pub fn no_order_jams() -> u32
+    ensures pictured { λ _. ⌜ Pictured ⌝ }
+    ensures follows { λ _. ⌜ Waiting-ends ⌝ }
+    ensures two { λ _. ⌜ Two-that-wait ⌝ }
+    ensures progress { λ _. ⌜ Never-jams ⌝ }
+{
+    0
+}
+
+// Of programs that keep: all orders come to the same.
+pub fn all_orders_agree() -> u32
+    ensures diamond { λ _. ⌜ Either-order ⌝ }
+    ensures confluent { λ _. ⌜ Confluent ⌝ }
+    ensures end { λ _. ⌜ Same-end ⌝ }
+    ensures steps { λ _. ⌜ Same-steps ⌝ }
+    ensures results { λ _. ⌜ Any-order ⌝ }
+    ensures crowded { λ _. ⌜ Crowded-alike ⌝ }
+{
+    0
+}
+
+// The clerk and the till, with one turn, come to an end, and show 42 in all orders.
+pub fn shop_shows() -> u32
+    ensures { λ _. ⌜ Shop-shows ⌝ }
+{
+    0
 }

@@ -1,10 +1,9 @@
 -- Where ends are held as a forest there is no circle: a walk along different lines that has once gone down goes down
 -- for good, and so one that comes back would have to arrive by the line that it left by.
 use mathlib.Core.Path.{_≡_, refl, sym, ap, _∙_}
-use mathlib.Core.Logic.{_⊎_, inl, inr}
 use mathlib.Core.List.{List, [], _∷_}
-use mathlib.Core.Option.{Option, some, none}
-use Prim.Native.Nat.{ℕ, zero, suc, _+_, _≤_, _<_}
+use mathlib.Core.Option.{some}
+use Prim.Native.Nat.{ℕ, zero, suc, _≤_, _<_}
 use native.Mathlib.Omega.{arith}
 use Rattle.model.specs.Program.{nth}
 use Rattle.model.specs.Steps.{Endpoint, Worker}

@@ -2,22 +2,22 @@
 use mathlib.Core.Path.{_≡_, refl, sym, ap, _∙_}
 use mathlib.Core.Logic.{_⊎_, inl, inr}
 use mathlib.Core.Bool.{cond}
-use mathlib.Core.List.{List, [], _∷_, _++_, map}
+use mathlib.Core.List.{List, [], _∷_, _++_}
 use mathlib.Core.Option.{Option, some, none}
-use Prim.Native.Nat.{ℕ, zero, suc, _+_, _≤_, _<_}
+use Prim.Native.Nat.{ℕ, zero, suc, _+_, _<_}
 use native.Mathlib.Nat.{add-zero}
 use native.Mathlib.Numerals.{add-one}
 use native.Mathlib.Omega.{arith}
 use lib.ListN.{length, length-append}
 use lib.Dec.{eqb}
 use Rattle.model.specs.Program.{nth, put, value, values, Action, stop, give, take, choose, offer, set, if, show, start, become, Process, Program}
-use Rattle.model.specs.Steps.{Endpoint, own-end, far-end, running, stopped, spent, Worker, Configuration, on, with-var, halted, begun, end, ends-of, without, only-first, after-alone, after-together, Alone, stops, sets, ifs, shows, starts, becomes, starts-spent, becomes-spent, Facing, Together, passes, agrees, Step, alone, together}
+use Rattle.model.specs.Steps.{Endpoint, own-end, far-end, running, stopped, spent, Worker, Configuration, on, with-var, halted, begun, ends-of, without, only-first, after-alone, after-together, Alone, stops, sets, ifs, shows, starts, becomes, starts-spent, becomes-spent, Together, passes, agrees, Step, alone, together}
 use Rattle.model.specs.Waiting.{awaits}
-use Rattle.model.specs.Same.{Renumbering, renamed-end, renamed, Same}
+use Rattle.model.specs.Same.{Renumbering, renamed, Same}
 use Rattle.model.proofs.Lists.{same?, append-nil, nth-below, nth-put-same, nth-put-other, nth-put-split, length-put, put-append, put-put-other, nth-append-left, nth-snoc-last, nth-snoc-split}
 use Rattle.model.proofs.Patch.{patch, patch-same, patch-other, end-is}
 use Rattle.model.proofs.Keeping.{or-open}
-use Rattle.model.proofs.Invariant.{Side, Inv}
+use Rattle.model.proofs.Invariant.{Side}
 use Rattle.model.proofs.Sound.{Sound}
 use Rattle.model.proofs.Renaming.{renamed-fixed, renamed-back, alone-renamed, same-of, same-sym}
 

@@ -1,13 +1,12 @@
 -- Every order comes to an end: each step lowers a number that begins as a function of the program and the turns.
-use mathlib.Core.Path.{_≡_, refl, sym, ap, _∙_}
+use mathlib.Core.Path.{_≡_, refl, ap, _∙_}
 use mathlib.Core.Bool.{Bool, true, false, cond}
 use mathlib.Core.List.{List, [], _∷_, _++_}
-use mathlib.Core.Option.{Option, some, none}
-use Prim.Native.Nat.{ℕ, zero, suc, _+_, _≤_, _<_, max}
+use mathlib.Core.Option.{some}
+use Prim.Native.Nat.{ℕ, zero, suc, _+_, _≤_, max}
 use native.Mathlib.Omega.{arith}
-use lib.ListN.{length}
 use lib.Dec.{eqb}
-use Rattle.model.specs.Program.{nth, put, value, Expression, Action, stop, give, take, choose, offer, set, if, show, start, become, Process, Program}
+use Rattle.model.specs.Program.{nth, put, value, Action, stop, give, take, choose, offer, set, if, show, start, become, Process, Program}
 use Rattle.model.specs.Steps.{State, running, stopped, spent, Worker, Configuration, Alone, stops, sets, ifs, shows, starts, becomes, starts-spent, becomes-spent, Together, passes, agrees, Step, alone, together, begin}
 use Rattle.model.specs.Theorems.{Counted, Ends}
 use Rattle.model.proofs.Lists.{nth-put-other}

@@ -2,9 +2,9 @@
 --
 -- A process hangs below at most one of the lines that it holds an end of, by the end `up`, and a line below at most
 -- one process, which holds the end of side `top`. Ranks grow downwards. Nothing is said of ends that nobody holds.
-use mathlib.Core.Path.{_≡_, refl, sym, ap, _∙_}
+use mathlib.Core.Path.{_≡_, ap, _∙_}
 use mathlib.Core.Logic.{_⊎_, inl, inr}
-use Prim.Native.Nat.{ℕ, zero, suc, _+_, _*_, _≤_, _<_}
+use Prim.Native.Nat.{ℕ, _+_, _*_, _<_}
 use native.Mathlib.Omega.{arith}
 use Rattle.model.specs.Steps.{Endpoint, own-end, far-end}
 use Rattle.model.proofs.Lists.{same?}

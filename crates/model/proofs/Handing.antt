@@ -2,17 +2,15 @@
 use mathlib.Core.Path.{_≡_, refl, sym, ap, _∙_}
 use mathlib.Core.Logic.{_⊎_, inl, inr}
 use mathlib.Core.Bool.{Bool, true, false, cond}
-use mathlib.Core.List.{List, [], _∷_, _++_, map}
+use mathlib.Core.List.{List, [], _∷_}
 use mathlib.Core.Option.{Option, some, none}
-use Prim.Native.Nat.{ℕ, zero, suc, _+_, _≤_, _<_}
+use Prim.Native.Nat.{ℕ, zero, suc}
 use native.Mathlib.Omega.{arith}
-use lib.ListN.{length}
-use lib.Dec.{eqb}
 use Rattle.model.specs.Program.{nth, or, put}
 use Rattle.model.specs.Keeps.{is, hands, begins}
 use Rattle.model.specs.Steps.{Endpoint, end, ends-of, without}
 use Rattle.model.specs.Picture.{Has, place, places}
-use Rattle.model.proofs.Lists.{look, same?, nth-put-same, nth-put-other, nth-put-split, nth-map, nth-map-back, map-put, map-agree}
+use Rattle.model.proofs.Lists.{same?, nth-put-other, nth-put-split, nth-map-back, map-put, map-agree}
 use Rattle.model.proofs.Patch.{moved, moved-same, moved-other}
 use Rattle.model.proofs.Keeping.{or-open}
 

@@ -3,12 +3,12 @@ use mathlib.Core.Path.{_≡_, refl, sym, ap, _∙_}
 use mathlib.Core.Logic.{_⊎_, inl, inr}
 use mathlib.Core.List.{List, [], _∷_, _++_}
 use mathlib.Core.Option.{Option, some, none}
-use Prim.Native.Nat.{ℕ, zero, suc, _+_, _≤_, _<_}
+use Prim.Native.Nat.{ℕ, zero, suc, _<_}
 use native.Mathlib.Omega.{arith}
 use lib.ListN.{length}
-use Rattle.model.specs.Program.{nth, put, Action, stop, Program}
+use Rattle.model.specs.Program.{nth, put, stop, Program}
 use Rattle.model.specs.Steps.{Endpoint, own-end, far-end, stopped, Worker}
-use Rattle.model.specs.Picture.{Has, Holds, places, Keeps-on, Mutual, Live}
+use Rattle.model.specs.Picture.{Has, Holds, places, Keeps-on, Live}
 use Rattle.model.proofs.Lists.{same?, nth-below, nth-put-same, nth-put-other, nth-put-split, length-put, nth-append-left, nth-snoc-last, nth-snoc-split}
 use Rattle.model.proofs.Patch.{end?, end-is}
 use Rattle.model.proofs.Handing.{places-agree, Once, Handed, left-from, left-once, handed-from, handed-split, handed-apart, handed-once}

@@ -1,14 +1,13 @@
 -- What keeping to conversations says, action by action and point by point: here alone `keeps` and `kept` are opened.
-use mathlib.Core.Path.{_≡_, refl, sym, ap, _∙_}
-use mathlib.Core.Logic.{_⊎_, inl, inr}
-use mathlib.Core.Bool.{Bool, true, false, _&&_, cond}
+use mathlib.Core.Path.{_≡_, refl, ap, _∙_}
+use mathlib.Core.Bool.{Bool, true, _&&_}
 use mathlib.Core.List.{List, [], _∷_, _++_}
 use mathlib.Core.Option.{Option, some, none}
-use Prim.Native.Nat.{ℕ, zero, suc, _+_, _≤_, _<_}
+use Prim.Native.Nat.{ℕ, zero, suc, _+_}
 use native.Mathlib.Omega.{arith}
 use lib.ListN.{length}
 use lib.Dec.{eqb, ltb}
-use Rattle.model.specs.Program.{nth, or, put, Point, over, gives, takes, chooses, offers, Expression, Action, stop, give, take, choose, offer, set, if, show, start, become, Process, Program}
+use Rattle.model.specs.Program.{nth, or, put, Point, over, gives, takes, chooses, offers, Action, stop, give, take, choose, offer, set, if, show, start, become, Process, Program}
 use Rattle.model.specs.Keeps.{then, is, Ways, ways, way, is-over, after-give, after-take, after-choose, after-offer, At, moves, all-over, ok, oks, hands, first, rest, alike, keeps, begins, all-keep, mutual-sides, mutual-ways, faces, points-fit, root, kept}
 use Rattle.model.specs.Picture.{Keeps-on, Mutual}
 use Rattle.model.proofs.Lists.{nth-below, nth-there}

@@ -1,14 +1,14 @@
 -- A program that keeps never jams.
-use mathlib.Core.Path.{_≡_, refl, sym, ap, _∙_}
+use mathlib.Core.Path.{_≡_, refl, sym, ap}
 use mathlib.Core.Logic.{_⊎_, inl, inr}
 use mathlib.Core.List.{List, [], _∷_}
-use mathlib.Core.Option.{Option, some, none}
+use mathlib.Core.Option.{some, none}
 use Prim.Native.Nat.{ℕ, zero, suc}
 use native.Mathlib.Omega.{arith}
 use Rattle.model.specs.Program.{nth, Program}
-use Rattle.model.specs.Steps.{Endpoint, State, running, stopped, spent, Worker, Configuration, Together, Step, alone, together}
+use Rattle.model.specs.Steps.{Endpoint, State, running, stopped, spent, Worker, Configuration, Step, alone, together}
 use Rattle.model.specs.Waiting.{awaits, Waits-at, Not-waiting, Hops, Fits-with, Meeting}
-use Rattle.model.specs.Theorems.{Still, All-stopped, Out, Never-jams, Waiting-ends, Two-that-wait}
+use Rattle.model.specs.Theorems.{All-stopped, Out, Never-jams, Waiting-ends, Two-that-wait}
 use Rattle.model.proofs.Keeping.{Good, good}
 use Rattle.model.proofs.Sound.{Sound, reached-sound}
 use Rattle.model.proofs.Progress.{Comes-to, comes-to, free-acts, acts-or-waits}

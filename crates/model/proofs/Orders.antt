@@ -1,14 +1,12 @@
 -- All orders come to the same: from the diamond, over runs that are counted.
 use mathlib.Core.Path.{_≡_, refl, sym, ap, _∙_}
-use mathlib.Core.Logic.{_⊎_, inl, inr, _↔_}
-use mathlib.Core.Bool.{true}
-use mathlib.Core.List.{List, [], _∷_, _++_, append-assoc}
-use mathlib.Core.Option.{Option, some, none}
-use Prim.Native.Nat.{ℕ, zero, suc, _+_, _≤_, _<_}
+use mathlib.Core.Logic.{inl, inr}
+use mathlib.Core.List.{List, [], _++_, append-assoc}
+use Prim.Native.Nat.{ℕ, zero, suc, _+_, _≤_}
 use native.Mathlib.Omega.{arith}
 use lib.ListN.{length, length-append}
-use Rattle.model.specs.Program.{nth, put, Program}
-use Rattle.model.specs.Steps.{spent, Worker, Configuration, only-first, Step, alone, together, Steps, here, more, begin}
+use Rattle.model.specs.Program.{put, Program}
+use Rattle.model.specs.Steps.{Configuration, only-first, Step, alone, together, Steps, here, more, begin}
 use Rattle.model.specs.Same.{renamed, Same}
 use Rattle.model.specs.Theorems.{Still, Out, Counted, Any-order, Either-order, Same-end, Same-steps, Confluent, Crowded-alike}
 use Rattle.model.proofs.Lists.{append-nil, length-put}

@@ -1,7 +1,7 @@
 -- Functions changed at one place, and equality of ends, decided.
-use mathlib.Core.Path.{_≡_, refl, sym, ap, _∙_}
+use mathlib.Core.Path.{_≡_, refl, ap}
 use mathlib.Core.Logic.{_⊎_, inl, inr}
-use Prim.Native.Nat.{ℕ, zero, suc}
+use Prim.Native.Nat.{ℕ}
 use Rattle.model.specs.Steps.{Endpoint}
 use Rattle.model.proofs.Lists.{same?}
 

@@ -1,16 +1,14 @@
 -- The picture of the lines, from the invariant.
-use mathlib.Core.Path.{_≡_, refl, sym, ap, _∙_}
+use mathlib.Core.Path.{_≡_, refl, sym, ap}
 use mathlib.Core.Logic.{_⊎_, inl, inr}
-use mathlib.Core.List.{List, [], _∷_}
-use mathlib.Core.Option.{Option, some, none}
-use Prim.Native.Nat.{ℕ, zero, suc, _<_}
+use mathlib.Core.Option.{some}
+use Prim.Native.Nat.{ℕ, _<_}
 use native.Mathlib.Omega.{arith}
 use Rattle.model.specs.Program.{nth, Program}
 use Rattle.model.specs.Steps.{Endpoint, own-end, far-end, Worker, Configuration}
 use Rattle.model.specs.Picture.{Holds, Live, Picture}
 use Rattle.model.specs.Theorems.{Pictured}
 use Rattle.model.proofs.Keeping.{Good, good, mutual-turn, not-over-turn}
-use Rattle.model.proofs.Invariant.{Inv}
 use Rattle.model.proofs.Sound.{Sound, reached-sound}
 use Rattle.model.proofs.Circle.{no-circle, two-holders}
 

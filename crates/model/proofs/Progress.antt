@@ -1,21 +1,21 @@
 -- Who waits, and for whom: from any process that waits, following what it waits for comes to an end.
 use mathlib.Core.Path.{_≡_, refl, sym, ap, _∙_}
 use mathlib.Core.Logic.{_⊎_, inl, inr}
-use mathlib.Core.List.{List, [], _∷_, _++_}
+use mathlib.Core.List.{List}
 use mathlib.Core.Option.{Option, some, none}
 use Prim.Native.Nat.{ℕ, zero, suc, _+_, _≤_, _<_, max}
 use native.Mathlib.Omega.{arith}
 use lib.ListN.{length}
-use Rattle.model.specs.Program.{nth, or, put, Point, over, gives, takes, chooses, offers, Expression, Action, stop, give, take, choose, offer, set, if, show, start, become, Program}
+use Rattle.model.specs.Program.{nth, or, Point, over, gives, takes, chooses, offers, Expression, Action, stop, give, take, choose, offer, set, if, show, start, become, Program}
 use Rattle.model.specs.Keeps.{Ways, ways, after-give, after-take, after-choose, after-offer}
 use Rattle.model.specs.Steps.{Endpoint, State, running, stopped, spent, Worker, end, Alone, stops, sets, ifs, shows, starts, becomes, starts-spent, becomes-spent, Facing, Together, passes, agrees}
-use Rattle.model.specs.Picture.{Has, Holds, place, places, Keeps-on, Mutual, Live}
+use Rattle.model.specs.Picture.{Holds, place, places, Keeps-on, Mutual, Live}
 use Rattle.model.specs.Waiting.{awaits, Waits-at, Not-waiting, Waits-for, Hops, Fits-with, Meeting}
 use Rattle.model.proofs.Lists.{same?, nth-below, nth-map}
-use Rattle.model.proofs.Patch.{end?, end-is}
-use Rattle.model.proofs.Keeping.{Next, next, Over, Moves, Starts, Becomes, Dual, over-over, gives-takes, takes-gives, chooses-offers, offers-chooses, Fit, Good, not-over-turn, after-give-is, after-take-is, after-choose-is, after-offer-is}
-use Rattle.model.proofs.Forest.{Forest, Hangs, below, above}
-use Rattle.model.proofs.Invariant.{Side, Inv}
+use Rattle.model.proofs.Patch.{end?}
+use Rattle.model.proofs.Keeping.{Next, next, Over, Moves, Dual, over-over, gives-takes, takes-gives, chooses-offers, offers-chooses, Fit, Good, not-over-turn, after-give-is, after-take-is, after-choose-is, after-offer-is}
+use Rattle.model.proofs.Forest.{Hangs, below, above}
+use Rattle.model.proofs.Invariant.{Side}
 use Rattle.model.proofs.Sound.{Sound, facing-fit, Stands, stands}
 
 -- what a worker wants in conversation c, where that is at a point

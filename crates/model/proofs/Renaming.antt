@@ -7,7 +7,7 @@ use Prim.Native.Nat.{ℕ, zero, suc, _+_, _≤_, _<_}
 use native.Mathlib.Omega.{arith}
 use lib.ListN.{length, length-append}
 use Rattle.model.specs.Program.{nth, put, Program}
-use Rattle.model.specs.Steps.{Endpoint, own-end, far-end, Worker, Configuration, end, ends-of, without, only-first, after-alone, after-together, Alone, stops, sets, ifs, shows, starts, becomes, starts-spent, becomes-spent, Facing, Together, passes, agrees, Step, alone, together}
+use Rattle.model.specs.Steps.{Endpoint, own-end, Worker, Configuration, end, ends-of, without, only-first, after-alone, after-together, Alone, stops, sets, ifs, shows, starts, becomes, starts-spent, becomes-spent, Facing, Together, passes, agrees, Step, alone, together}
 use Rattle.model.specs.Same.{Renumbering, renamed-end, renamed, Same}
 use Rattle.model.proofs.Lists.{below?, nth-below, nth-there, nth-put-same, nth-put-other, nth-put-split, length-put, nth-append-left, nth-append-right, nth-append-split, nth-map, map-put, map-append, map-agree, map-same, map-map, length-map}
 

@@ -1,14 +1,14 @@
 -- The clerk and the till: a run that ends.
-use mathlib.Core.Path.{_≡_, refl, sym, ap, _∙_}
-use mathlib.Core.List.{List, [], _∷_, _++_}
-use mathlib.Core.Option.{Option, some, none}
-use Prim.Native.Nat.{ℕ, zero, suc, _+_, _≤_, _<_}
+use mathlib.Core.Path.{_≡_, refl}
+use mathlib.Core.List.{[], _∷_}
+use mathlib.Core.Option.{some}
+use Prim.Native.Nat.{zero, suc}
 use native.Mathlib.Omega.{arith}
 use lib.Dec.{lit≤}
-use Rattle.model.specs.Program.{nth, stop, Program}
-use Rattle.model.specs.Rows.{rowG, Fine, Reads}
+use Rattle.model.specs.Program.{stop, Program}
+use Rattle.model.specs.Rows.{rowG, Reads}
 use Rattle.model.specs.Examples.{shop, till}
-use Rattle.model.specs.Steps.{Endpoint, own-end, far-end, running, stopped, Worker, Configuration, Alone, stops, shows, starts, Facing, Together, passes, Step, alone, together, Steps, here, more, begin}
+use Rattle.model.specs.Steps.{own-end, far-end, stopped, Worker, Configuration, stops, shows, starts, Facing, passes, alone, together, Steps, here, more, begin}
 use Rattle.model.specs.Theorems.{Still, All-stopped, Shop-shows}
 use Rattle.model.proofs.Orders.{any-order}
 

@@ -4,20 +4,20 @@ use mathlib.Core.Logic.{_⊎_, inl, inr}
 use mathlib.Core.Bool.{Bool, true, false, cond}
 use mathlib.Core.List.{List, [], _∷_, _++_}
 use mathlib.Core.Option.{Option, some, none}
-use Prim.Native.Nat.{ℕ, zero, suc, _+_, _≤_, _<_}
+use Prim.Native.Nat.{ℕ, zero, suc, _+_, _<_}
 use native.Mathlib.Nat.{add-zero}
 use native.Mathlib.Numerals.{add-one}
 use native.Mathlib.Omega.{arith}
 use lib.ListN.{length}
 use lib.Dec.{eqb}
-use Rattle.model.specs.Program.{nth, put, value, values, Point, over, gives, takes, chooses, offers, Expression, Action, stop, give, take, choose, offer, set, if, show, start, become, Process, Program}
+use Rattle.model.specs.Program.{nth, put, Point, over, gives, takes, chooses, offers, Action, stop, give, take, choose, offer, if, Process, Program}
 use Rattle.model.specs.Keeps.{begins, Ways, ways, way, after-give, after-take, after-choose, after-offer}
-use Rattle.model.specs.Steps.{Endpoint, own-end, far-end, State, running, stopped, spent, Worker, Configuration, on, begun, first-worker, end, ends-of, without, Alone, stops, sets, ifs, shows, starts, becomes, starts-spent, becomes-spent, Facing, Together, passes, agrees, Step, alone, together, Steps, here, more, begin}
+use Rattle.model.specs.Steps.{Endpoint, own-end, far-end, running, stopped, spent, Worker, Configuration, on, begun, first-worker, end, ends-of, without, Alone, stops, sets, ifs, shows, starts, becomes, starts-spent, becomes-spent, Facing, Together, passes, agrees, Step, alone, together, Steps, here, more, begin}
 use Rattle.model.specs.Picture.{Has, Holds, place, places, Keeps-on, Mutual, Live}
 use Rattle.model.proofs.Lists.{same?, append-nil, nth-put-other, nth-map, map-append}
 use Rattle.model.proofs.Patch.{end?, end-is, moved, moved-same, moved-other}
-use Rattle.model.proofs.Keeping.{or-open, Next, next, Over, Moves, Starts, Becomes, Dual, over-over, gives-takes, takes-gives, chooses-offers, offers-chooses, Fit, Good, mutual-turn, after-give-is, after-take-is, after-choose-is, after-offer-is}
-use Rattle.model.proofs.Handing.{Once, Handed, Hands, hands-open, left-from, handed-from, handed-split, handed-once, handed-left-is, handed-ends-is, places-end, places-agree, places-moved, places-moved-other}
+use Rattle.model.proofs.Keeping.{or-open, Next, next, Moves, Starts, Becomes, Dual, over-over, gives-takes, takes-gives, chooses-offers, offers-chooses, Good, mutual-turn, after-give-is, after-take-is, after-choose-is, after-offer-is}
+use Rattle.model.proofs.Handing.{Once, Hands, hands-open, left-from, handed-from, handed-split, handed-once, handed-left-is, handed-ends-is, places-end, places-agree, places-moved, places-moved-other}
 use Rattle.model.proofs.Forest.{forest-empty}
 use Rattle.model.proofs.Invariant.{Side, Inv, inv-put, inv-start}
 

@@ -4,7 +4,7 @@ use mathlib.Core.Logic.{_⊎_}
 use mathlib.Core.Bool.{Bool, true}
 use mathlib.Core.List.{List, [], _∷_, map}
 use mathlib.Core.Option.{Option, some, none}
-use Prim.Native.Nat.{ℕ, zero, suc, _<_}
+use Prim.Native.Nat.{ℕ, _<_}
 use Rattle.model.specs.Program.{nth, over, Action, Program}
 use Rattle.model.specs.Steps.{Endpoint, Worker, Configuration, own-end, far-end}
 use Rattle.model.specs.Keeps.{At, keeps}

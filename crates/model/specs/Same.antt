@@ -1,6 +1,6 @@
 -- When two configurations are the same but for the numbers of processes and lines, which depend on the order of starts.
 use mathlib.Core.Path.{_≡_}
-use mathlib.Core.List.{List, map}
+use mathlib.Core.List.{map}
 use mathlib.Core.Option.{Option, some, none}
 use Prim.Native.Nat.{ℕ, _≤_}
 use lib.ListN.{length}

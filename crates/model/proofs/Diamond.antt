@@ -65,7 +65,7 @@ alone-once g line w w′ w″ vs vs′ ns ns′ st st′ =
     let q = alone-does g line w w″ vs′ ns′ st′ in
     (cc, cc, cc)
 -- who acts alone does not wait
-alone-free : (g : Program) (line : ℕ) (w w′ : Worker) (vs : List Worker) (ns : List ℕ) → Alone g line w w′ vs ns → awaits (w .todo) ≡ none
+pub alone-free : (g : Program) (line : ℕ) (w w′ : Worker) (vs : List Worker) (ns : List ℕ) → Alone g line w w′ vs ns → awaits (w .todo) ≡ none
 alone-free g line w w′ vs ns (stops t) = ap awaits t
 alone-free g line w w′ vs ns (sets x e s t) = ap awaits t
 alone-free g line w w′ vs ns (ifs e s u t) = ap awaits t
@@ -110,18 +110,18 @@ together-roles w v u w′ v′ v″ u′ (passes c d x e s t p q f) (agrees c′
 together-roles w v u w′ v′ v″ u′ (agrees c d k s t u″ p q f) (passes c′ d′ x e s′ t′ p′ q′ f′) = grind arith
 together-roles w v u w′ v′ v″ u′ (agrees c d k s t u″ p q f) (agrees c′ d′ k′ s′ t′ u‴ p′ q′ f′) = grind arith
 -- the ends at which they do it
-record Between (w v : Worker) : Type 0 where
-  c : ℕ
-  d : ℕ
-  near : Endpoint
-  far : Endpoint
-  near-awaited : awaits (w .todo) ≡ some c
-  far-awaited : awaits (v .todo) ≡ some d
-  is-near : nth (w .ends) c ≡ some (some near)
-  is-far : nth (v .ends) d ≡ some (some far)
-  lines : near .line ≡ far .line
-  sides : near .side ≡ far .side → ⊥
-between : (w v w′ v′ : Worker) → Together w v w′ v′ → Between w v
+pub record Between (w v : Worker) : Type 0 where
+  pub c : ℕ
+  pub d : ℕ
+  pub near : Endpoint
+  pub far : Endpoint
+  pub near-awaited : awaits (w .todo) ≡ some c
+  pub far-awaited : awaits (v .todo) ≡ some d
+  pub is-near : nth (w .ends) c ≡ some (some near)
+  pub is-far : nth (v .ends) d ≡ some (some far)
+  pub lines : near .line ≡ far .line
+  pub sides : near .side ≡ far .side → ⊥
+pub between : (w v w′ v′ : Worker) → Together w v w′ v′ → Between w v
 between w v w′ v′ (passes c d x e s t p q f) = record { c = c; d = d; near = f .a; far = f .b; near-awaited = ap awaits p; far-awaited = ap awaits q; is-near = or-open _ _ (f .is-a); is-far = or-open _ _ (f .is-b); lines = f .line; sides = f .sides }
 between w v w′ v′ (agrees c d k s t u p q f) = record { c = c; d = d; near = f .a; far = f .b; near-awaited = ap awaits p; far-awaited = ap awaits q; is-near = or-open _ _ (f .is-a); is-far = or-open _ _ (f .is-b); lines = f .line; sides = f .sides }
 

@@ -100,7 +100,7 @@ together-lowers k w v w′ v′ r q (agrees c d j s t u a b f) =
     let h = cond-size (eqb j 0) t u in
     omega arith
 
-abbrev potential : Program → Configuration → ℕ
+abbrev pub potential : Program → Configuration → ℕ
 potential g a = total (largest (g .procs)) (a .workers)
 
 pub step-lowers : (g : Program) (a b : Configuration) → Step g a b → suc (potential g b) ≤ potential g a

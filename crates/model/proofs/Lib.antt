@@ -15,3 +15,4 @@ pub mod Renaming
 pub mod Diamond
 pub mod Orders
 pub mod Shop
+pub mod Decided

@@ -1,5 +1,5 @@
 -- A program that keeps never jams.
-use mathlib.Core.Path.{_≡_, refl, sym, ap}
+use mathlib.Core.Path.{_≡_, refl, sym}
 use mathlib.Core.Logic.{_⊎_, inl, inr}
 use mathlib.Core.List.{List, [], _∷_}
 use mathlib.Core.Option.{some, none}
@@ -11,7 +11,7 @@ use Rattle.model.specs.Waiting.{awaits, Waits-at, Not-waiting, Hops, Fits-with
 use Rattle.model.specs.Theorems.{All-stopped, Out, Never-jams, Waiting-ends, Two-that-wait}
 use Rattle.model.proofs.Keeping.{Good, good}
 use Rattle.model.proofs.Sound.{Sound, reached-sound}
-use Rattle.model.proofs.Progress.{Comes-to, comes-to, free-acts, acts-or-waits}
+use Rattle.model.proofs.Progress.{waits-not, Comes-to, comes-to, free-acts, acts-or-waits}
 use Rattle.model.proofs.Circle.{two-holders}
 
 -- all have stopped, or some process has not
@@ -38,13 +38,13 @@ module _ (g : Program) (gd : Good g) (a : Configuration) (sound : Sound g (a .wo
   apart i j m = two-holders (a .workers) (sound .inv .forest) (m .near .line) i j (record {
       near = m .near; far = m .far; near-line = refl; far-line = sym (m .line); sides = m .sides;
       holds-near = (m .this .0, m .this .2, (m .this .1, m .this .5)); holds-far = (m .that .0, m .that .2, (m .that .1, m .that .5)) })
-  meeting-step : (i j : ℕ) → Meeting (a .workers) i j → (b : Configuration) × Step g a b
+  pub meeting-step : (i j : ℕ) → Meeting (a .workers) i j → (b : Configuration) × Step g a b
   meeting-step i j m = go (m .fits)
     where
       go : Fits-with (a .workers) i j ⊎ Fits-with (a .workers) j i → (b : Configuration) × Step g a b
       go (inl f) = fits-step i j (apart i j m) f
       go (inr f) = fits-step j i (λ e. apart i j m (sym e)) f
-  free-step : (i : ℕ) (w : Worker) → nth (a .workers) i ≡ some w → w .state ≡ running → awaits (w .todo) ≡ none → (b : Configuration) × Step g a b
+  pub free-step : (i : ℕ) (w : Worker) → nth (a .workers) i ≡ some w → w .state ≡ running → awaits (w .todo) ≡ none → (b : Configuration) × Step g a b
   free-step i w h r n = let f = free-acts g gd (a .workers) (a .next) sound i w h n in (_, alone i w (f .0) (f .1) (f .2) h r (f .3))
 
   -- who does not wait is out of turns or can take a step
@@ -97,12 +97,7 @@ two-that-wait s g turns a reads keeps st i e h others = go (r .3)
     go (inr m) = (r .1, m .0, m .1)
     go (inl n) = absurd (two (n .2) (others (r .1) (n .0) (n .1)))
       where
-        awaited : (n .0 .state ≡ running) × (awaits (n .0 .todo) ≡ none) → (d : Endpoint) × Waits-at (a .workers) (r .1) d → ⊥
-        awaited x y = let p = n .1 in let q = y .1 .2 in let same : y .1 .0 ≡ n .0 = cc in let z = y .1 .4 in let u = ap (λ (w : Worker). awaits (w .todo)) same in let v = x .1 in grind arith
-        running-no : (d : Endpoint) × Waits-at (a .workers) (r .1) d → n .0 .state ≡ spent → ⊥
-        running-no y x = let p = n .1 in let q = y .1 .2 in let same : y .1 .0 ≡ n .0 = cc in let z = y .1 .3 in let u = ap (λ (w : Worker). w .state) same in grind arith
         two : (n .0 .state ≡ spent) ⊎ ((n .0 .state ≡ running) × (awaits (n .0 .todo) ≡ none)) → (n .0 .state ≡ stopped) ⊎ ((d : Endpoint) × Waits-at (a .workers) (r .1) d) → ⊥
         two (inl x) (inl y) = grind arith
         two (inr x) (inl y) = let z = x .0 in grind arith
-        two (inl x) (inr y) = running-no y x
-        two (inr x) (inr y) = awaited x y
+        two x (inr y) = waits-not (a .workers) (r .1) (y .0) (y .1) n

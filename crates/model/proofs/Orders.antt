@@ -8,7 +8,7 @@ use lib.ListN.{length, length-append}
 use Rattle.model.specs.Program.{put, Program}
 use Rattle.model.specs.Steps.{Configuration, only-first, Step, alone, together, Steps, here, more, begin}
 use Rattle.model.specs.Same.{renamed, Same}
-use Rattle.model.specs.Theorems.{Still, Out, Counted, Any-order, Either-order, Same-end, Same-steps, Confluent, Crowded-alike}
+use Rattle.model.specs.Theorems.{Still, Out, Counted, Any-order, Either-order, Same-end, Same-steps, Same-end-ahead, Crowded-alike}
 use Rattle.model.proofs.Lists.{append-nil, length-put}
 use Rattle.model.proofs.Keeping.{Good, good}
 use Rattle.model.proofs.Sound.{Sound, step-sound, reached-sound}
@@ -98,8 +98,8 @@ same-out a b s o = (s .processes .to (o .0), renamed (s .lines .to) (o .1), s .e
 pub either-order : Either-order
 either-order s g turns a b c reads keeps st p q = let gd = good g (reads .sides) keeps in diamond g a (reached-sound g gd turns a st) b c p q
 
-pub confluent : Confluent
-confluent s g turns a b reads keeps st st′ still =
+pub same-end-ahead : Same-end-ahead
+same-end-ahead s g turns a b reads keeps st st′ still =
     let gd = good g (reads .sides) keeps in
     let r = steps-run g (begin g turns) a st in
     let r′ = steps-run g (begin g turns) b st′ in
@@ -121,7 +121,7 @@ any-order s g turns a b reads keeps st st′ still still′ =
     (x .showns, x .counts, (same-out a b x, same-out b a (same-sym a b x)))
 pub crowded-alike : Crowded-alike
 crowded-alike s g turns a b reads keeps st st′ still =
-    let x = confluent s g turns a b reads keeps st st′ still in
+    let x = same-end-ahead s g turns a b reads keeps st st′ still in
     let p = steps-grow g a (x .0) (x .1) in
     let q = x .3 .counts in
     omega arith

@@ -12,7 +12,7 @@ use Rattle.model.specs.Steps.{Endpoint, State, running, stopped, spent, Worker
 use Rattle.model.specs.Picture.{Holds, place, places, Keeps-on, Mutual, Live}
 use Rattle.model.specs.Waiting.{awaits, Waits-at, Not-waiting, Waits-for, Hops, Fits-with, Meeting}
 use Rattle.model.proofs.Lists.{same?, nth-below, nth-map}
-use Rattle.model.proofs.Patch.{end?}
+use Rattle.model.proofs.Patch.{end?, end-is}
 use Rattle.model.proofs.Keeping.{Next, next, Over, Moves, Dual, over-over, gives-takes, takes-gives, chooses-offers, offers-chooses, Fit, Good, not-over-turn, after-give-is, after-take-is, after-choose-is, after-offer-is}
 use Rattle.model.proofs.Forest.{Hangs, below, above}
 use Rattle.model.proofs.Invariant.{Side}
@@ -86,10 +86,10 @@ fits-together g w v c d p q (chooses-offers m n) (wants-choose k s t) (wants-off
 fits-together g w v c d p q (offers-chooses m n) (wants-offer u u′ t′) (wants-choose k s t) f = inr (_, _, agrees d c k s u u′ t t′ (facing-turn _ _ f))
 
 -- the other end of an end's line
-abbrev turned : ℕ → ℕ
+abbrev pub turned : ℕ → ℕ
 turned zero = 1
 turned (suc s) = 0
-abbrev across : Endpoint → Endpoint
+abbrev pub across : Endpoint → Endpoint
 across e = record { line = e .line; side = turned (e .side) }
 turned-side : (s : ℕ) → Side (turned s)
 turned-side zero = inr refl
@@ -97,6 +97,38 @@ turned-side (suc s) = inl refl
 turned-other : (s : ℕ) → s ≡ turned s → ⊥
 turned-other zero h = omega arith
 turned-other (suc s) h = omega arith
+
+pub across-is : (e d : Endpoint) → e .line ≡ d .line → (e .side ≡ d .side → ⊥) → Side (e .side) → Side (d .side) → d ≡ across e
+across-is e d l n p q = end-is d (across e) (sym l) (go (e .side) (d .side) n p q)
+  where
+    go : (s t : ℕ) → (s ≡ t → ⊥) → Side s → Side t → t ≡ turned s
+    go zero t n p (inl q) = absurd (n (sym q))
+    go zero t n p (inr q) = q
+    go (suc s) t n p (inl q) = q
+    go (suc s) t n (inl p) (inr q) = absurd (omega arith)
+    go (suc s) t n (inr p) (inr q) = absurd (n (p ∙ sym q))
+
+-- a process waits at one end, and then it is not one that does not wait
+pub waits-once : (ws : List Worker) (i : ℕ) (e d : Endpoint) → Waits-at ws i e → Waits-at ws i d → e ≡ d
+waits-once ws i e d h k = go (h .0) (k .0) (h .1) (k .1) same (h .4) (k .4) (h .5) (k .5)
+  where
+    same : h .0 ≡ k .0
+    same = let p = h .2 in let q = k .2 in cc
+    go : (w v : Worker) (c c′ : ℕ) → w ≡ v → awaits (w .todo) ≡ some c → awaits (v .todo) ≡ some c′ → nth (w .ends) c ≡ some (some e) → nth (v .ends) c′ ≡ some (some d) → e ≡ d
+    go w v c c′ p a b x y =
+        let a′ : awaits (v .todo) ≡ some c = rw p at a in
+        let x′ : nth (v .ends) c ≡ some (some e) = rw p at x in
+        let q : c ≡ c′ = cc in
+        let z = ap (nth (v .ends)) q in
+        cc
+pub waits-not : (ws : List Worker) (i : ℕ) (e : Endpoint) → Waits-at ws i e → Not-waiting ws i → ⊥
+waits-not ws i e h n = go (h .0) (n .0) same (h .3) (h .4) (n .2)
+  where
+    same : h .0 ≡ n .0
+    same = let p = h .2 in let q = n .1 in cc
+    go : (w v : Worker) → w ≡ v → w .state ≡ running → awaits (w .todo) ≡ some (h .1) → (v .state ≡ spent) ⊎ ((v .state ≡ running) × (awaits (v .todo) ≡ none)) → ⊥
+    go w v p r a (inl s) = let r′ : v .state ≡ running = rw p at r in grind arith
+    go w v p r a (inr s) = let a′ : awaits (v .todo) ≡ some (h .1) = rw p at a in let z = s .1 in grind arith
 
 -- a bound of a function below n
 abbrev most : (ℕ → ℕ) → ℕ → ℕ
@@ -164,7 +196,7 @@ module _ (g : Program) (gd : Good g) (ws : List Worker) (next-line : ℕ) (sound
       go spent r = inl (h .0, h .1, inl r)
 
   -- the process that one waits for
-  hop : (i : ℕ) (e : Endpoint) → Waits-at ws i e → (j : ℕ) × Holds ws j (across e) × (Not-waiting ws j ⊎ ((x : Endpoint) × Waits-at ws j x))
+  pub hop : (i : ℕ) (e : Endpoint) → Waits-at ws i e → (j : ℕ) × Holds ws j (across e) × (Not-waiting ws j ⊎ ((x : Endpoint) × Waits-at ws j x))
   hop i e h =
       let live = not-over-turn g gd (sound .point e) (sound .point (across e)) (across-fits i e h) (waits-live i e h) in
       let b = sound .inv .made i e (waits-holds i e h) .0 in
@@ -174,7 +206,7 @@ module _ (g : Program) (gd : Good g) (ws : List Worker) (next-line : ℕ) (sound
   waits-for i j e d h k q = record { near = e; far = d; line = ap (λ (x : Endpoint). x .line) (sym q); sides = λ z. turned-other (e .side) (z ∙ ap (λ (x : Endpoint). x .side) q); waits = h; holds = k }
 
   -- two that wait for each other
-  meeting : (i j : ℕ) (e d : Endpoint) → Waits-at ws i e → Waits-at ws j d → d ≡ across e → Meeting ws i j
+  pub meeting : (i j : ℕ) (e d : Endpoint) → Waits-at ws i e → Waits-at ws j d → d ≡ across e → Meeting ws i j
   meeting i j e d h k q = record { near = e; far = d; line = lines; sides = sides; this = h; that = k; fits = go (fits-together g (h .0) (k .0) (a .conversation) (b .conversation) (a .says) (b .says) dual (a .wants) (b .wants) facing) }
     where
       a : Wanted (h .0) e

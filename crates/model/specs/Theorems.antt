@@ -69,11 +69,18 @@ Same-end = (s : List ℕ) (g : Program) (turns : ℕ) (a b : Configuration) → 
 -- All orders take as many steps.
 abbrev pub Same-steps : Type 0
 Same-steps = (s : List ℕ) (g : Program) (turns m n : ℕ) (a b : Configuration) → Reads s g → kept g ≡ true → Counted g turns m a → Counted g turns n b → Still g a → Still g b → m ≡ n
--- Every configuration on the way can still reach the end that another order came to.
-abbrev pub Confluent : Type 0
-Confluent = (s : List ℕ) (g : Program) (turns : ℕ) (a b : Configuration) → Reads s g → kept g ≡ true → Steps g (begin g turns) a → Steps g (begin g turns) b → Still g b →
+-- From every configuration on the way an end can be reached,
+abbrev pub Has-end : Type 0
+Has-end = (s : List ℕ) (g : Program) (turns : ℕ) (a : Configuration) → Reads s g → kept g ≡ true → Steps g (begin g turns) a → (b : Configuration) × Steps g a b × Still g b
+-- the same as the end that another order came to,
+abbrev pub Same-end-ahead : Type 0
+Same-end-ahead = (s : List ℕ) (g : Program) (turns : ℕ) (a b : Configuration) → Reads s g → kept g ≡ true → Steps g (begin g turns) a → Steps g (begin g turns) b → Still g b →
   (c : Configuration) × Steps g a c × Still g c × Same b c
--- So there are never more processes on the way of one order than at the end of another.
+-- so that any two configurations on the way can come to the same.
+abbrev pub Confluent : Type 0
+Confluent = (s : List ℕ) (g : Program) (turns : ℕ) (a b : Configuration) → Reads s g → kept g ≡ true → Steps g (begin g turns) a → Steps g (begin g turns) b →
+  (c : Configuration) × (d : Configuration) × Steps g a c × Steps g b d × Same c d
+-- There are never more processes on the way of one order than at the end of another.
 abbrev pub Crowded-alike : Type 0
 Crowded-alike = (s : List ℕ) (g : Program) (turns : ℕ) (a b : Configuration) → Reads s g → kept g ≡ true → Steps g (begin g turns) a → Steps g (begin g turns) b → Still g b → length (a .workers) ≤ length (b .workers)
 

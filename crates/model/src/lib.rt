@@ -6,7 +6,7 @@ ghost use lib.ListN.{length};
 ghost use Rattle.model.specs.Examples.{shop, hasty};
 ghost use Rattle.model.specs.Keeps.{kept};
 ghost use Rattle.model.specs.Rows.{rowG};
-ghost use Rattle.model.specs.Theorems.{Shop-shows, Ends, Pictured, Waiting-ends, Two-that-wait, Never-jams, Either-order, Same-end, Same-steps, Any-order, Confluent, Crowded-alike};
+ghost use Rattle.model.specs.Theorems.{Shop-shows, Ends, Pictured, Waiting-ends, Two-that-wait, Never-jams, Either-order, Same-end, Same-steps, Any-order, Has-end, Same-end-ahead, Confluent, Crowded-alike};
 
 // The clerk and the till keep to their conversation, and their rows are this many words; the hasty clerk is careless.
 pub fn shop_words() -> u32
@@ -37,6 +37,8 @@ pub fn no_order_jams() -> u32
 // Of programs that keep: all orders come to the same.
 pub fn all_orders_agree() -> u32
     ensures diamond { λ _. ⌜ Either-order ⌝ }
+    ensures ahead { λ _. ⌜ Has-end ⌝ }
+    ensures one { λ _. ⌜ Same-end-ahead ⌝ }
     ensures confluent { λ _. ⌜ Confluent ⌝ }
     ensures end { λ _. ⌜ Same-end ⌝ }
     ensures steps { λ _. ⌜ Same-steps ⌝ }

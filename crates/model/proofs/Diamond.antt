@@ -2,7 +2,7 @@
 use mathlib.Core.Path.{_≡_, refl, sym, ap, _∙_}
 use mathlib.Core.Logic.{_⊎_, inl, inr}
 use mathlib.Core.Bool.{cond}
-use mathlib.Core.List.{List, [], _∷_, _++_}
+use mathlib.Core.List.{List, [], _∷_, _++_, append-nil}
 use mathlib.Core.Option.{Option, some, none}
 use Prim.Native.Nat.{ℕ, zero, suc, _+_, _<_}
 use native.Mathlib.Nat.{add-zero}
@@ -14,7 +14,7 @@ use Rattle.model.specs.Program.{nth, put, value, values, Action, stop, give, t
 use Rattle.model.specs.Steps.{Endpoint, own-end, far-end, running, stopped, spent, Worker, Configuration, on, with-var, halted, begun, ends-of, without, only-first, after-alone, after-together, Alone, stops, sets, ifs, shows, starts, becomes, starts-spent, becomes-spent, Together, passes, agrees, Step, alone, together}
 use Rattle.model.specs.Waiting.{awaits}
 use Rattle.model.specs.Same.{Renumbering, renamed, Same}
-use Rattle.model.proofs.Lists.{same?, append-nil, nth-below, nth-put-same, nth-put-other, nth-put-split, length-put, put-append, put-put-other, nth-append-left, nth-snoc-last, nth-snoc-split}
+use Rattle.model.proofs.Lists.{same?, nth-below, nth-put-same, nth-put-other, nth-put-split, length-put, put-append, put-put-other, nth-append-left, nth-snoc-last, nth-snoc-split}
 use Rattle.model.proofs.Patch.{patch, patch-same, patch-other, end-is}
 use Rattle.model.proofs.Keeping.{or-open}
 use Rattle.model.proofs.Invariant.{Side}

@@ -87,10 +87,6 @@ put-put-other (x ∷ xs) zero (suc j) v u d = refl
 put-put-other (x ∷ xs) (suc i) zero v u d = refl
 put-put-other (x ∷ xs) (suc i) (suc j) v u d = ap (λ ys. x ∷ ys) (put-put-other xs i j v u (λ e. d (ap suc e)))
 
-pub append-nil : {A : Type 0} (xs : List A) → xs ++ [] ≡ xs
-append-nil [] = refl
-append-nil (x ∷ xs) = ap (λ ys. x ∷ ys) (append-nil xs)
-
 pub put-append : {A : Type 0} (xs ys : List A) (i : ℕ) (v : A) → i < length xs → put (xs ++ ys) i v ≡ put xs i v ++ ys
 put-append [] ys i v h = absurd (omega arith)
 put-append (x ∷ xs) ys zero v h = refl
@@ -144,14 +140,6 @@ map-put f [] i v = refl
 map-put f (x ∷ xs) zero v = refl
 map-put f (x ∷ xs) (suc i) v = ap (λ ys. f x ∷ ys) (map-put f xs i v)
 
-pub map-append : {A B : Type 0} (f : A → B) (xs ys : List A) → map f (xs ++ ys) ≡ map f xs ++ map f ys
-map-append f [] ys = refl
-map-append f (x ∷ xs) ys = ap (λ zs. f x ∷ zs) (map-append f xs ys)
-
-pub length-map : {A B : Type 0} (f : A → B) (xs : List A) → length (map f xs) ≡ length xs
-length-map f [] = refl
-length-map f (x ∷ xs) = ap suc (length-map f xs)
-
 -- maps that do the same at each element of a list
 pub map-agree : {A B : Type 0} (f g : A → B) (xs : List A) → ((i : ℕ) (x : A) → nth xs i ≡ some x → f x ≡ g x) → map f xs ≡ map g xs
 map-agree f g [] h = refl
@@ -160,7 +148,3 @@ map-agree f g (x ∷ xs) h = let a = h 0 x refl in let b = map-agree f g xs (λ 
 pub map-same : {A : Type 0} (f : A → A) (xs : List A) → ((i : ℕ) (x : A) → nth xs i ≡ some x → f x ≡ x) → map f xs ≡ xs
 map-same f [] h = refl
 map-same f (x ∷ xs) h = let a = h 0 x refl in let b = map-same f xs (λ i y e. h (suc i) y e) in cc
-
-pub map-map : {A B C : Type 0} (g : B → C) (f : A → B) (xs : List A) → map g (map f xs) ≡ map (λ x. g (f x)) xs
-map-map g f [] = refl
-map-map g f (x ∷ xs) = ap (λ ys. g (f x) ∷ ys) (map-map g f xs)

@@ -1,7 +1,7 @@
 -- All orders come to the same: from the diamond, over runs that are counted.
 use mathlib.Core.Path.{_≡_, refl, sym, ap, _∙_}
 use mathlib.Core.Logic.{inl, inr}
-use mathlib.Core.List.{List, [], _++_, append-assoc}
+use mathlib.Core.List.{List, [], _++_, append-nil, append-assoc}
 use Prim.Native.Nat.{ℕ, zero, suc, _+_, _≤_}
 use native.Mathlib.Omega.{arith}
 use lib.ListN.{length, length-append}
@@ -9,7 +9,7 @@ use Rattle.model.specs.Program.{put, Program}
 use Rattle.model.specs.Steps.{Configuration, only-first, Step, alone, together, Steps, here, more, begin}
 use Rattle.model.specs.Same.{renamed, Same}
 use Rattle.model.specs.Theorems.{Still, Out, Counted, Any-order, Either-order, Same-end, Same-steps, Same-end-ahead, Crowded-alike}
-use Rattle.model.proofs.Lists.{append-nil, length-put}
+use Rattle.model.proofs.Lists.{length-put}
 use Rattle.model.proofs.Keeping.{Good, good}
 use Rattle.model.proofs.Sound.{Sound, step-sound, reached-sound}
 use Rattle.model.proofs.Renaming.{same-refl, same-sym, same-trans, same-step}

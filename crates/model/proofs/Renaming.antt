@@ -1,15 +1,15 @@
 -- Configurations that are the same but for numbers: an equivalence, and they take the same steps.
 use mathlib.Core.Path.{_≡_, refl, sym, ap, _∙_}
 use mathlib.Core.Logic.{_⊎_, inl, inr}
-use mathlib.Core.List.{List, [], _∷_, _++_, map}
+use mathlib.Core.List.{List, [], _∷_, _++_, map, map-append, map-map}
 use mathlib.Core.Option.{Option, some, none}
 use Prim.Native.Nat.{ℕ, zero, suc, _+_, _≤_, _<_}
 use native.Mathlib.Omega.{arith}
-use lib.ListN.{length, length-append}
+use lib.ListN.{length, length-append, length-map}
 use Rattle.model.specs.Program.{nth, put, Program}
 use Rattle.model.specs.Steps.{Endpoint, own-end, Worker, Configuration, end, ends-of, without, only-first, after-alone, after-together, Alone, stops, sets, ifs, shows, starts, becomes, starts-spent, becomes-spent, Facing, Together, passes, agrees, Step, alone, together}
 use Rattle.model.specs.Same.{Renumbering, renamed-end, renamed, Same}
-use Rattle.model.proofs.Lists.{below?, nth-below, nth-there, nth-put-same, nth-put-other, nth-put-split, length-put, nth-append-left, nth-append-right, nth-append-split, nth-map, map-put, map-append, map-agree, map-same, map-map, length-map}
+use Rattle.model.proofs.Lists.{below?, nth-below, nth-there, nth-put-same, nth-put-other, nth-put-split, length-put, nth-append-left, nth-append-right, nth-append-split, nth-map, map-put, map-agree, map-same}
 
 worker-ends : (w v : Worker) → w .todo ≡ v .todo → w .vars ≡ v .vars → w .ends ≡ v .ends → w .left ≡ v .left → w .state ≡ v .state → w ≡ v
 worker-ends w v t x e l s = λ i. record { todo = t i; vars = x i; ends = e i; left = l i; state = s i }
@@ -138,7 +138,7 @@ module _ (g : Program) (a b : Configuration) (s : Same a b) where
       processes = s .processes; lines = s .lines; first = s .first;
       new-process = λ k l. s .new-process k (let x = length-append (put (a .workers) i w′) vs in let y = length-put (a .workers) i w′ in omega arith);
       new-line = λ k l. s .new-line k (omega arith);
-      counts = counts-of; nexts = let x = length-map (renamed (s .lines .to)) vs in let y = s .nexts in omega arith;
+      counts = counts-of; nexts = let x = length-map vs (renamed (s .lines .to)) in let y = s .nexts in omega arith;
       showns = shown-of; each = λ k u x. each k u (nth-append-split (put (a .workers) i w′) vs k x) }
     where
       shown-of : a .shown ++ only-first i ns ≡ b .shown ++ only-first (s .processes .to i) ns
@@ -149,7 +149,7 @@ module _ (g : Program) (a b : Configuration) (s : Same a b) where
           let q = length-append (put (b .workers) (s .processes .to i) (renamed (s .lines .to) w′)) (map (renamed (s .lines .to)) vs) in
           let r = length-put (a .workers) i w′ in
           let t = length-put (b .workers) (s .processes .to i) (renamed (s .lines .to) w′) in
-          let u = length-map (renamed (s .lines .to)) vs in
+          let u = length-map vs (renamed (s .lines .to)) in
           let v = s .counts in
           omega arith
       each : (k : ℕ) (u : Worker) → (nth (put (a .workers) i w′) k ≡ some u) ⊎ ((m : ℕ) × (k ≡ length (put (a .workers) i w′) + m) × (nth vs m ≡ some u)) →

@@ -2,7 +2,7 @@
 use mathlib.Core.Path.{_≡_, refl, sym, ap, _∙_}
 use mathlib.Core.Logic.{_⊎_, inl, inr}
 use mathlib.Core.Bool.{Bool, true, false, cond}
-use mathlib.Core.List.{List, [], _∷_, _++_}
+use mathlib.Core.List.{List, [], _∷_, _++_, append-nil, map-append}
 use mathlib.Core.Option.{Option, some, none}
 use Prim.Native.Nat.{ℕ, zero, suc, _+_, _<_}
 use native.Mathlib.Nat.{add-zero}
@@ -14,7 +14,7 @@ use Rattle.model.specs.Program.{nth, put, Point, over, gives, takes, chooses, 
 use Rattle.model.specs.Keeps.{begins, Ways, ways, way, after-give, after-take, after-choose, after-offer}
 use Rattle.model.specs.Steps.{Endpoint, own-end, far-end, running, stopped, spent, Worker, Configuration, on, begun, first-worker, end, ends-of, without, Alone, stops, sets, ifs, shows, starts, becomes, starts-spent, becomes-spent, Facing, Together, passes, agrees, Step, alone, together, Steps, here, more, begin}
 use Rattle.model.specs.Picture.{Has, Holds, place, places, Keeps-on, Mutual, Live}
-use Rattle.model.proofs.Lists.{same?, append-nil, nth-put-other, nth-map, map-append}
+use Rattle.model.proofs.Lists.{same?, nth-put-other, nth-map}
 use Rattle.model.proofs.Patch.{end?, end-is, moved, moved-same, moved-other}
 use Rattle.model.proofs.Keeping.{or-open, Next, next, Moves, Starts, Becomes, Dual, over-over, gives-takes, takes-gives, chooses-offers, offers-chooses, Good, mutual-turn, after-give-is, after-take-is, after-choose-is, after-offer-is}
 use Rattle.model.proofs.Handing.{Once, Hands, hands-open, left-from, handed-from, handed-split, handed-once, handed-left-is, handed-ends-is, places-end, places-agree, places-moved, places-moved-other}

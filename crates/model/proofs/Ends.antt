@@ -116,7 +116,7 @@ step-lowers g a b (together i j w v w′ v′ d h k r q st) =
     omega arith
 
 -- a run of c steps costs c at least
-counted-costs : (g : Program) (turns c : ℕ) (a : Configuration) → Counted g turns c a → c + potential g a ≤ potential g (begin g turns)
+pub counted-costs : (g : Program) (turns c : ℕ) (a : Configuration) → Counted g turns c a → c + potential g a ≤ potential g (begin g turns)
 counted-costs g turns zero a h = let e = ap (potential g) h in omega arith
 counted-costs g turns (suc c) a h =
     let ih = counted-costs g turns c (h .0) (h .1) in

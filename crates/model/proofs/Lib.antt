@@ -10,7 +10,7 @@ pub mod Sound
 pub mod Circle
 pub mod Pictured
 pub mod Progress
-pub mod Never
+pub mod NeverJams
 pub mod Renaming
 pub mod Diamond
 pub mod Orders

@@ -75,11 +75,6 @@ nth-put-split xs i j v {x} h = go (same? i j)
     go (inl e) = inl (e, here xs i v x (rw (← e) at h))
     go (inr d) = inr (d, sym (nth-put-other xs i j v d) ∙ h)
 
-pub put-put-same : {A : Type 0} (xs : List A) (i : ℕ) (v u : A) → put (put xs i v) i u ≡ put xs i u
-put-put-same [] i v u = refl
-put-put-same (x ∷ xs) zero v u = refl
-put-put-same (x ∷ xs) (suc i) v u = ap (λ ys. x ∷ ys) (put-put-same xs i v u)
-
 pub put-put-other : {A : Type 0} (xs : List A) (i j : ℕ) (v u : A) → (i ≡ j → ⊥) → put (put xs i v) j u ≡ put (put xs j u) i v
 put-put-other [] i j v u d = refl
 put-put-other (x ∷ xs) zero zero v u d = absurd (d refl)

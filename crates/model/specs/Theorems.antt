@@ -36,6 +36,7 @@ Counted g turns (suc c) a = (b : Configuration) × Counted g turns c b × Step g
 -- Every order comes to an end, after a bounded number of steps.
 abbrev pub Ends : Type 0
 Ends = (s : List ℕ) (g : Program) (turns : ℕ) → Reads s g → (most : ℕ) × ((a : Configuration) (c : ℕ) → Counted g turns c a → c ≤ most)
+
 -- At every moment of every order, each line has its two ends with two different processes, at points that are each
 -- other's other side, and processes with lines between them form no circle.
 abbrev pub Pictured : Type 0
@@ -53,10 +54,7 @@ Two-that-wait = (s : List ℕ) (g : Program) (turns : ℕ) (a : Configuration) �
 -- all have stopped, or some process is out of turns.
 abbrev pub Never-jams : Type 0
 Never-jams = (s : List ℕ) (g : Program) (turns : ℕ) (a : Configuration) → Reads s g → kept g ≡ true → Steps g (begin g turns) a → Still g a → All-stopped a ⊎ Out a
--- All orders come to the same: the same numbers shown, as many processes, and out of turns in all orders or in none.
-abbrev pub Any-order : Type 0
-Any-order = (s : List ℕ) (g : Program) (turns : ℕ) (a b : Configuration) → Reads s g → kept g ≡ true → Steps g (begin g turns) a → Steps g (begin g turns) b → Still g a → Still g b →
-  (a .shown ≡ b .shown) × (length (a .workers) ≡ length (b .workers)) × (Out a ↔ Out b)
+
 -- Two steps that can both be taken come to the same, or can be taken in either order, with the same after both but for
 -- the numbers of processes and lines.
 abbrev pub Either-order : Type 0
@@ -69,14 +67,19 @@ Same-end = (s : List ℕ) (g : Program) (turns : ℕ) (a b : Configuration) → 
 -- All orders take as many steps.
 abbrev pub Same-steps : Type 0
 Same-steps = (s : List ℕ) (g : Program) (turns m n : ℕ) (a b : Configuration) → Reads s g → kept g ≡ true → Counted g turns m a → Counted g turns n b → Still g a → Still g b → m ≡ n
--- From every configuration on the way an end can be reached,
+-- All orders come to the same: the same numbers shown, as many processes, and out of turns in all orders or in none.
+abbrev pub Any-order : Type 0
+Any-order = (s : List ℕ) (g : Program) (turns : ℕ) (a b : Configuration) → Reads s g → kept g ≡ true → Steps g (begin g turns) a → Steps g (begin g turns) b → Still g a → Still g b →
+  (a .shown ≡ b .shown) × (length (a .workers) ≡ length (b .workers)) × (Out a ↔ Out b)
+
+-- From every configuration on the way an end can be reached.
 abbrev pub Has-end : Type 0
 Has-end = (s : List ℕ) (g : Program) (turns : ℕ) (a : Configuration) → Reads s g → kept g ≡ true → Steps g (begin g turns) a → (b : Configuration) × Steps g a b × Still g b
--- the same as the end that another order came to,
+-- It can be the end that another order came to, but for numbers.
 abbrev pub Same-end-ahead : Type 0
 Same-end-ahead = (s : List ℕ) (g : Program) (turns : ℕ) (a b : Configuration) → Reads s g → kept g ≡ true → Steps g (begin g turns) a → Steps g (begin g turns) b → Still g b →
   (c : Configuration) × Steps g a c × Still g c × Same b c
--- so that any two configurations on the way can come to the same.
+-- Any two configurations on the way can come to the same, but for numbers.
 abbrev pub Confluent : Type 0
 Confluent = (s : List ℕ) (g : Program) (turns : ℕ) (a b : Configuration) → Reads s g → kept g ≡ true → Steps g (begin g turns) a → Steps g (begin g turns) b →
   (c : Configuration) × (d : Configuration) × Steps g a c × Steps g b d × Same c d

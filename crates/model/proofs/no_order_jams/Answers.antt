@@ -1,4 +1,4 @@
-use Rattle.model.proofs.Never.{never-jams, waiting-ends, two-that-wait}
+use Rattle.model.proofs.NeverJams.{never-jams, waiting-ends, two-that-wait}
 use Rattle.model.proofs.Pictured.{pictured}
 use Rattle.model.proofs.no_order_jams.Needs as need
 

@@ -32,12 +32,14 @@ module _ (g : Program) (gd : Good g) (a : Configuration) (sound : Sound g (a .wo
     where
       same : (v : Worker) → nth (a .workers) i ≡ some v → w ≡ v
       same v k = cc
+
   -- a process that waits meets the one across, or nobody
   waiting-part : (i : ℕ) (e : Endpoint) → Waits-at (a .workers) i e → ((b : Configuration) × Step g a b) ⊎ Stuck (a .workers) i
   waiting-part i e h = go (hop g gd (a .workers) (a .next) sound i e h)
     where
       not-free : (w : Worker) → nth (a .workers) i ≡ some w → w .state ≡ running → awaits (w .todo) ≡ none → ⊥
       not-free w k r x = waits-not (a .workers) i e h (w, k, inr (r, x))
+
       go : (j : ℕ) × Holds (a .workers) j (across e) × (Not-waiting (a .workers) j ⊎ ((x : Endpoint) × Waits-at (a .workers) j x)) → ((b : Configuration) × Step g a b) ⊎ Stuck (a .workers) i
       go p = two (p .2)
         where
@@ -49,6 +51,7 @@ module _ (g : Program) (gd : Good g) (a : Configuration) (sound : Sound g (a .wo
               let y′ : Waits-at (a .workers) j (across e) = rw de at y in
               let jp : j ≡ p .0 = sound .inv .holder j (p .0) (across e) (y′ .0, y′ .2, (y′ .1, y′ .5)) (p .1) in
               rw jp at y′
+
           two : Not-waiting (a .workers) (p .0) ⊎ ((x : Endpoint) × Waits-at (a .workers) (p .0) x) → ((b : Configuration) × Step g a b) ⊎ Stuck (a .workers) i
           two (inl n) = inr (record { free = not-free; met = λ j e′ d x y q. waits-not (a .workers) (p .0) (across e) (across-waits j e′ d x y q) n })
           two (inr k) = three (end? (k .0) (across e))
@@ -56,23 +59,26 @@ module _ (g : Program) (gd : Good g) (a : Configuration) (sound : Sound g (a .wo
               three : (k .0 ≡ across e) ⊎ (k .0 ≡ across e → ⊥) → ((b : Configuration) × Step g a b) ⊎ Stuck (a .workers) i
               three (inl q) = inl (meeting-step g gd a sound i (p .0) (meeting g gd (a .workers) (a .next) sound i (p .0) e (k .0) h (k .1) q))
               three (inr n) = inr (record { free = not-free; met = λ j e′ d x y q. n (waits-once (a .workers) (p .0) (k .0) (across e) (k .1) (across-waits j e′ d x y q)) })
+
   part : (i : ℕ) (w : Worker) → nth (a .workers) i ≡ some w → ((b : Configuration) × Step g a b) ⊎ Stuck (a .workers) i
   part i w h = go (w .state) refl
     where
       two : w .state ≡ running → (awaits (w .todo) ≡ none) ⊎ ((e : Endpoint) × Waits-at (a .workers) i e) → ((b : Configuration) × Step g a b) ⊎ Stuck (a .workers) i
       two r (inl n) = inl (free-step g gd a sound i w h r n)
       two r (inr x) = waiting-part i (x .0) (x .1)
+
       go : (s : State) → w .state ≡ s → ((b : Configuration) × Step g a b) ⊎ Stuck (a .workers) i
       go running r = two r (acts-or-waits g gd (a .workers) (a .next) sound i w h r)
       go stopped r = inr (stuck-not-running i w h (λ z. grind arith))
       go spent r = inr (stuck-not-running i w h (λ z. grind arith))
+
   -- some process has a part in a step, or none has
   parts : (n : ℕ) → ((b : Configuration) × Step g a b) ⊎ ((i : ℕ) (w : Worker) → i < n → nth (a .workers) i ≡ some w → Stuck (a .workers) i)
   parts zero = inr (λ i w b h. absurd (omega arith))
   parts (suc n) = go (parts n) (look (a .workers) n)
     where
       go : ((b : Configuration) × Step g a b) ⊎ ((i : ℕ) (w : Worker) → i < n → nth (a .workers) i ≡ some w → Stuck (a .workers) i) → (nth (a .workers) n ≡ none) ⊎ ((w : Worker) × (nth (a .workers) n ≡ some w)) →
-        ((b : Configuration) × Step g a b) ⊎ ((i : ℕ) (w : Worker) → i < suc n → nth (a .workers) i ≡ some w → Stuck (a .workers) i)
+          ((b : Configuration) × Step g a b) ⊎ ((i : ℕ) (w : Worker) → i < suc n → nth (a .workers) i ≡ some w → Stuck (a .workers) i)
       go (inl st) _ = inl st
       go (inr all) (inl z) = inr (λ i w b h. each i w b h (same? i n))
         where
@@ -84,9 +90,11 @@ module _ (g : Program) (gd : Good g) (a : Configuration) (sound : Sound g (a .wo
           each : Stuck (a .workers) n → (i : ℕ) (w : Worker) → i < suc n → nth (a .workers) i ≡ some w → (i ≡ n) ⊎ (i ≡ n → ⊥) → Stuck (a .workers) i
           each s i w b h (inl e) = rw e s
           each s i w b h (inr d) = all i w (omega arith) h
+
           two : ((b : Configuration) × Step g a b) ⊎ Stuck (a .workers) n → ((b : Configuration) × Step g a b) ⊎ ((i : ℕ) (w : Worker) → i < suc n → nth (a .workers) i ≡ some w → Stuck (a .workers) i)
           two (inl st) = inl st
           two (inr s) = inr (λ i w b h. each s i w b h (same? i n))
+
   stuck-still : ((i : ℕ) (w : Worker) → i < length (a .workers) → nth (a .workers) i ≡ some w → Stuck (a .workers) i) → Still g a
   stuck-still all b (alone i w w′ ws ns h r st) = all i w (nth-below (a .workers) i h) h .free w h r (alone-free g (a .next) w w′ ws ns st)
   stuck-still all b (together i j w v w′ v′ d h k r q st) =
@@ -94,6 +102,7 @@ module _ (g : Program) (gd : Good g) (a : Configuration) (sound : Sound g (a .wo
       let mi = sound .inv .made i (x .near) (w, h, (x .c, x .is-near)) in
       let mj = sound .inv .made j (x .far) (v, k, (x .d, x .is-far)) in
       all i w (nth-below (a .workers) i h) h .met j (x .near) (x .far) (w, x .c, h, r, x .near-awaited, x .is-near) (v, x .d, k, q, x .far-awaited, x .is-far) (across-is (x .near) (x .far) (x .lines) (x .sides) (mi .1) (mj .1))
+
   pub decided : ((b : Configuration) × Step g a b) ⊎ Still g a
   decided = go (parts (length (a .workers)))
     where

@@ -44,8 +44,10 @@ abbrev weight : ℕ → Action → ℕ → State → ℕ
 weight k s l running = size s + bank k l
 weight k s l stopped = 0
 weight k s l spent = 0
+
 abbrev worth : ℕ → Worker → ℕ
 worth k w = weight k (w .todo) (w .left) (w .state)
+
 abbrev total : ℕ → List Worker → ℕ
 total k [] = 0
 total k (w ∷ ws) = worth k w + total k ws
@@ -69,7 +71,7 @@ cond-size false s t = omega arith
 
 -- acting alone, with what it starts, a process is worth less afterwards
 alone-lowers : (g : Program) (line : ℕ) (w w′ : Worker) (ws : List Worker) (ns : List ℕ) → w .state ≡ running → Alone g line w w′ ws ns →
-  suc (worth (largest (g .procs)) w′ + total (largest (g .procs)) ws) ≤ worth (largest (g .procs)) w
+    suc (worth (largest (g .procs)) w′ + total (largest (g .procs)) ws) ≤ worth (largest (g .procs)) w
 alone-lowers g line w w′ ws ns r (stops t) = let e = worth-running (largest (g .procs)) w stop _ r t refl in omega arith
 alone-lowers g line w w′ ws ns r (sets x a s t) = let e = worth-running (largest (g .procs)) w (set x a s) _ r t refl in omega arith
 alone-lowers g line w w′ ws ns r (ifs a s u t) =

@@ -71,6 +71,7 @@ nth-put-split xs i j v {x} h = go (same? i j)
     here [] k u y e = grind arith
     here (z ∷ ys) zero u y e = cc
     here (z ∷ ys) (suc k) u y e = here ys k u y e
+
     go : (i ≡ j) ⊎ (i ≡ j → ⊥) → ((i ≡ j) × (x ≡ v)) ⊎ ((i ≡ j → ⊥) × (nth xs j ≡ some x))
     go (inl e) = inl (e, here xs i v x (rw (← e) at h))
     go (inr d) = inr (d, sym (nth-put-other xs i j v d) ∙ h)

@@ -20,7 +20,7 @@ find [] = inl (λ i w h. grind arith)
 find (w ∷ ws) = go (w .state) refl (find ws)
   where
     go : (s : State) → w .state ≡ s → ((i : ℕ) (v : Worker) → nth ws i ≡ some v → v .state ≡ stopped) ⊎ ((i : ℕ) × (v : Worker) × (nth ws i ≡ some v) × ((v .state ≡ running) ⊎ (v .state ≡ spent))) →
-      ((i : ℕ) (v : Worker) → nth (w ∷ ws) i ≡ some v → v .state ≡ stopped) ⊎ ((i : ℕ) × (v : Worker) × (nth (w ∷ ws) i ≡ some v) × ((v .state ≡ running) ⊎ (v .state ≡ spent)))
+        ((i : ℕ) (v : Worker) → nth (w ∷ ws) i ≡ some v → v .state ≡ stopped) ⊎ ((i : ℕ) × (v : Worker) × (nth (w ∷ ws) i ≡ some v) × ((v .state ≡ running) ⊎ (v .state ≡ spent)))
     go running e x = inr (0, w, refl, inl e)
     go spent e x = inr (0, w, refl, inr e)
     go stopped e (inl all) = inl (λ i v h. each i v h)
@@ -33,17 +33,26 @@ find (w ∷ ws) = go (w .state) refl (find ws)
 module _ (g : Program) (gd : Good g) (a : Configuration) (sound : Sound g (a .workers) (a .next)) where
   fits-step : (i j : ℕ) → (i ≡ j → ⊥) → Fits-with (a .workers) i j → (b : Configuration) × Step g a b
   fits-step i j n f = (_, together i j (f .0) (f .1) (f .2) (f .3) n (f .4) (f .5) (f .6) (f .7) (f .8))
+
   -- two that meet are two
   apart : (i j : ℕ) → Meeting (a .workers) i j → i ≡ j → ⊥
   apart i j m = two-holders (a .workers) (sound .inv .forest) (m .near .line) i j (record {
-      near = m .near; far = m .far; near-line = refl; far-line = sym (m .line); sides = m .sides;
-      holds-near = (m .this .0, m .this .2, (m .this .1, m .this .5)); holds-far = (m .that .0, m .that .2, (m .that .1, m .that .5)) })
+    near = m .near;
+    far = m .far;
+    near-line = refl;
+    far-line = sym (m .line);
+    sides = m .sides;
+    holds-near = (m .this .0, m .this .2, (m .this .1, m .this .5));
+    holds-far = (m .that .0, m .that .2, (m .that .1, m .that .5));
+  })
+
   pub meeting-step : (i j : ℕ) → Meeting (a .workers) i j → (b : Configuration) × Step g a b
   meeting-step i j m = go (m .fits)
     where
       go : Fits-with (a .workers) i j ⊎ Fits-with (a .workers) j i → (b : Configuration) × Step g a b
       go (inl f) = fits-step i j (apart i j m) f
       go (inr f) = fits-step j i (λ e. apart i j m (sym e)) f
+
   pub free-step : (i : ℕ) (w : Worker) → nth (a .workers) i ≡ some w → w .state ≡ running → awaits (w .todo) ≡ none → (b : Configuration) × Step g a b
   free-step i w h r n = let f = free-acts g gd (a .workers) (a .next) sound i w h n in (_, alone i w (f .0) (f .1) (f .2) h r (f .3))
 
@@ -54,6 +63,7 @@ module _ (g : Program) (gd : Good g) (a : Configuration) (sound : Sound g (a .wo
       go : (n .0 .state ≡ spent) ⊎ ((n .0 .state ≡ running) × (awaits (n .0 .todo) ≡ none)) → Out a ⊎ ((b : Configuration) × Step g a b)
       go (inl s) = inl (i, n .0, n .1, s)
       go (inr r) = inr (free-step i (n .0) (n .1) (r .0) (r .1))
+
   -- all have stopped, some process is out of turns, or there is a next step
   pub progress : All-stopped a ⊎ (Out a ⊎ ((b : Configuration) × Step g a b))
   progress = go (find (a .workers))
@@ -64,9 +74,11 @@ module _ (g : Program) (gd : Good g) (a : Configuration) (sound : Sound g (a .wo
           two : Not-waiting (a .workers) (r .1) ⊎ ((j : ℕ) × Meeting (a .workers) (r .1) j) → Out a ⊎ ((b : Configuration) × Step g a b)
           two (inl n) = not-waiting (r .1) n
           two (inr m) = inr (meeting-step (r .1) (m .0) (m .1))
+
       goes : (i : ℕ) (w : Worker) → nth (a .workers) i ≡ some w → w .state ≡ running → (awaits (w .todo) ≡ none) ⊎ ((e : Endpoint) × Waits-at (a .workers) i e) → Out a ⊎ ((b : Configuration) × Step g a b)
       goes i w h r (inl n) = inr (free-step i w h r n)
       goes i w h r (inr x) = ends-in i (comes-to g gd (a .workers) (a .next) sound i (x .0) (x .1))
+
       go : All-stopped a ⊎ ((i : ℕ) × (w : Worker) × (nth (a .workers) i ≡ some w) × ((w .state ≡ running) ⊎ (w .state ≡ spent))) → All-stopped a ⊎ (Out a ⊎ ((b : Configuration) × Step g a b))
       go (inl all) = inl all
       go (inr x) = inr (state-of (x .3))
@@ -80,6 +92,7 @@ never-jams s g turns a reads keeps st still = go (progress g gd a (reached-sound
   where
     gd : Good g
     gd = good g (reads .sides) keeps
+
     go : All-stopped a ⊎ (Out a ⊎ ((b : Configuration) × Step g a b)) → All-stopped a ⊎ Out a
     go (inl all) = inl all
     go (inr (inl out)) = inr out
@@ -93,6 +106,7 @@ two-that-wait s g turns a reads keeps st i e h others = go (r .3)
   where
     r : (n : ℕ) × (k : ℕ) × Hops (a .workers) n i k × (Not-waiting (a .workers) k ⊎ ((j : ℕ) × Meeting (a .workers) k j))
     r = waiting-ends s g turns a reads keeps st i e h
+
     go : Not-waiting (a .workers) (r .1) ⊎ ((j : ℕ) × Meeting (a .workers) (r .1) j) → (j : ℕ) × (k : ℕ) × Meeting (a .workers) j k
     go (inr m) = (r .1, m .0, m .1)
     go (inl n) = absurd (two (n .2) (others (r .1) (n .0) (n .1)))

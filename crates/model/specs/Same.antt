@@ -13,10 +13,12 @@ pub record Renumbering : Type 0 where
   pub from : ℕ → ℕ
   pub there : (n : ℕ) → from (to n) ≡ n
   pub back : (n : ℕ) → to (from n) ≡ n
+
 -- an end, and a process, with lines renumbered
 abbrev pub renamed-end : (ℕ → ℕ) → Option Endpoint → Option Endpoint
 renamed-end f none = none
 renamed-end f (some e) = some (record { line = f (e .line); side = e .side })
+
 abbrev pub renamed : (ℕ → ℕ) → Worker → Worker
 renamed f w = record { todo = w .todo; vars = w .vars; ends = map (renamed-end f) (w .ends); left = w .left; state = w .state }
 

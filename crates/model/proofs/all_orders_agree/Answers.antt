@@ -4,4 +4,12 @@ use Rattle.model.proofs.all_orders_agree.Needs as need
 
 pub returns : need.returns
 returns c = record {
-    diamond = either-order; ahead = has-end; one = same-end-ahead; confluent = confluent; end = same-end; steps = same-steps; results = any-order; crowded = crowded-alike }
+  diamond = either-order;
+  ahead = has-end;
+  one = same-end-ahead;
+  confluent = confluent;
+  end = same-end;
+  steps = same-steps;
+  results = any-order;
+  crowded = crowded-alike;
+}

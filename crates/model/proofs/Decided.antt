@@ -18,7 +18,7 @@ use Rattle.model.proofs.Ends.{potential, step-lowers}
 use Rattle.model.proofs.Sound.{Sound, step-sound, reached-sound}
 use Rattle.model.proofs.Progress.{across, across-is, waits-once, waits-not, hop, meeting, acts-or-waits}
 use Rattle.model.proofs.NeverJams.{meeting-step, free-step}
-use Rattle.model.proofs.Diamond.{alone-free, between}
+use Rattle.model.proofs.Determined.{alone-free, between}
 use Rattle.model.proofs.Orders.{steps-run, run-steps, same-end-ahead}
 
 -- process i has no part in a step: it is not at an action that needs no other, and nobody waits across from it

@@ -1,8 +1,8 @@
--- The proofs of the theorems.
+-- The proofs of the theorems, in the order in which they build on one another.
 pub mod Lists
+pub mod Patch
 pub mod Ends
 pub mod Keeping
-pub mod Patch
 pub mod Handing
 pub mod Forest
 pub mod Invariant
@@ -12,7 +12,8 @@ pub mod Pictured
 pub mod Progress
 pub mod NeverJams
 pub mod Renaming
+pub mod Determined
 pub mod Diamond
 pub mod Orders
-pub mod Shop
 pub mod Decided
+pub mod Shop

@@ -21,11 +21,15 @@ use Rattle.model.specs.Keeps.{At, moves, after-give, keeps}
 use Rattle.model.proofs.Lists.{length-put}
 
 pub give-says : (s : List ℕ) (m : Map) (c v d n : ℕ) (r : Bool) (a : At) (next point : ℕ) (after : Conversations) → VariablesSay s v d n (Some next) →
-  ((g : _) → Known s m g → NextSays g a c after-give (Some point)) → stand after ≡ put a c (some point) → GiveSays s m c v d n r a (On next after)
+    ((g : _) → Known s m g → NextSays g a c after-give (Some point)) → stand after ≡ put a c (some point) → GiveSays s m c v d n r a (On next after)
 give-says s m c v d n r a next point after vars nexts put-is g e t x known h deeps room =
-  let w = vars e (rowA t ++ x) h (omega arith) in
-  let k = nexts g known (λ q. keeps g n r t (put a c (some q))) in
-  let l : length (stand after) ≡ length a = ap length put-is ∙ length-put a c (some point) in
-  record {
-    it = t; rows = w .1; deeps = omega arith; room = omega arith;
-    same = ap (λ b. b && moves g a c after-give (λ q. keeps g n r t (put a c (some q)))) (w .0) ∙ (k ∙ ap (keeps g n r t) (sym put-is)) }
+    let w = vars e (rowA t ++ x) h (omega arith) in
+    let k = nexts g known (λ q. keeps g n r t (put a c (some q))) in
+    let l : length (stand after) ≡ length a = ap length put-is ∙ length-put a c (some point) in
+    record {
+      it = t;
+      rows = w .1;
+      deeps = omega arith;
+      room = omega arith;
+      same = ap (λ b. b && moves g a c after-give (λ q. keeps g n r t (put a c (some q)))) (w .0) ∙ (k ∙ ap (keeps g n r t) (sym put-is));
+    }

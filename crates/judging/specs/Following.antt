@@ -27,6 +27,7 @@ pub record Decides (s : List ℕ) (g : Program) (n : ℕ) (r : Bool) (j d : ℕ)
   pub deeps : deep it ≤ d
   pub room : length (stand c) + new it ≤ 16
   pub same : b ≡ keeps g n r it (stand c)
+
 -- Two ways stand from place j on, and decide b together.
 pub record Decide2 (s : List ℕ) (g : Program) (n : ℕ) (r : Bool) (j d : ℕ) (c c′ : Conversations) (x : List ℕ) (b : Bool) : Type 0 where
   pub one : Action
@@ -38,26 +39,31 @@ pub record Decide2 (s : List ℕ) (g : Program) (n : ℕ) (r : Bool) (j d : ℕ)
   pub room-one : length (stand c) + new one ≤ 16
   pub room-two : length (stand c′) + new two ≤ 16
   pub same : b ≡ keeps g n r one (stand c) && keeps g n r two (stand c′)
+
 -- what an action comes to, where b says whether it keeps
 abbrev pub Outcome : List ℕ → Program → ℕ → Bool → ℕ → List ℕ → Bool → Course → Type 0
 Outcome s g n r d x b Careless = b ≡ false
 Outcome s g n r d x b (Kept j) = (b ≡ true) × (drop j s ≡ x)
 Outcome s g n r d x b (On j c) = Decides s g n r j d c x b
 Outcome s g n r d x b (Parted j c c′) = Decide2 s g n r j d c c′ x b
+
 -- whatever action stands at place i, this is what it comes to
 abbrev pub FollowSays : List ℕ → Map → ℕ → ℕ → ℕ → Bool → At → Course → Type 0
 FollowSays s m i d n r a c = (g : Program) (t : Action) (x : List ℕ) → Known s m g → drop i s ≡ rowA t ++ x → deep t ≤ d → length a + new t ≤ 16 → Outcome s g n r d x (keeps g n r t a) c
+
 abbrev pub WalkSays : List ℕ → Map → ℕ → ℕ → ℕ → Bool → At → Option ℕ → Type 0
 WalkSays s m i d n r a e = (g : Program) (t : Action) (x : List ℕ) → Known s m g → drop i s ≡ rowA t ++ x → deep t ≤ d → length a + new t ≤ 16 → Verdict s x (keeps g n r t a) e
 
 -- a place that is come to lies no earlier than place k
 abbrev pub From : List ℕ → ℕ → ℕ → Type 0
 From s k j = (k ≤ j) × (k ≤ length s → j ≤ length s)
+
 abbrev pub CourseFrom : List ℕ → ℕ → Course → Type 0
 CourseFrom s k Careless = Unit {0}
 CourseFrom s k (Kept j) = From s k j
 CourseFrom s k (On j c) = From s k j
 CourseFrom s k (Parted j c c′) = From s k j
+
 -- a place that is come to lies behind place i, within the rows
 abbrev pub CourseBehind : List ℕ → ℕ → Course → Type 0
 CourseBehind s i Careless = Unit {0}
@@ -68,22 +74,26 @@ CourseBehind s i (Parted j c c′) = (i < j) × (j ≤ length s)
 -- the same of each kind of action, whose operands stand at place v
 abbrev pub GiveSays : List ℕ → Map → ℕ → ℕ → ℕ → ℕ → Bool → At → Course → Type 0
 GiveSays s m c v d n r a o = (g : Program) (e : Expression) (t : Action) (x : List ℕ) → Known s m g → drop v s ≡ rowE e ++ (rowA t ++ x) → deep (give c e t) ≤ d → length a + new t ≤ 16 →
-  Outcome s g n r d x (keeps g n r (give c e t) a) o
+    Outcome s g n r d x (keeps g n r (give c e t) a) o
+
 abbrev pub TakeSays : List ℕ → Map → ℕ → ℕ → ℕ → ℕ → ℕ → Bool → At → Course → Type 0
 TakeSays s m c y v d n r a o = (g : Program) (t : Action) (x : List ℕ) → Known s m g → drop v s ≡ rowA t ++ x → deep t ≤ d → length a + new t ≤ 16 → Outcome s g n r d x (keeps g n r (take c y t) a) o
+
 abbrev pub ChooseSays : List ℕ → Map → ℕ → ℕ → ℕ → ℕ → ℕ → Bool → At → Course → Type 0
 ChooseSays s m c k v d n r a o = (g : Program) (t : Action) (x : List ℕ) → Known s m g → drop v s ≡ rowA t ++ x → deep t ≤ d → length a + new t ≤ 16 → Outcome s g n r d x (keeps g n r (choose c k t) a) o
+
 abbrev pub OfferSays : List ℕ → Map → ℕ → ℕ → ℕ → ℕ → Bool → At → Course → Type 0
 OfferSays s m c v d n r a o = (g : Program) (t u : Action) (x : List ℕ) → Known s m g → drop v s ≡ rowA t ++ (rowA u ++ x) → deep (offer c t u) ≤ d → length a + new (offer c t u) ≤ 16 →
-  Outcome s g n r d x (keeps g n r (offer c t u) a) o
+    Outcome s g n r d x (keeps g n r (offer c t u) a) o
 
 -- what is left after a start of process f with so many numbers, handing on conversations cs: the starter goes on with it
 abbrev pub StartSays : Program → At → ℕ → List ℕ → ℕ → Option Conversations → Type 0
 StartSays g a f cs many None = (k : At → Bool) →
-  then (nth (g .procs) f) (λ p. eqb many (p .nums) && then (hands a cs (rest (p .talks))) (λ b. then (first (p .talks)) (λ t. then (nth (g .other) t) (λ u. k (b ++ (some u ∷ [])))))) ≡ false
+    then (nth (g .procs) f) (λ p. eqb many (p .nums) && then (hands a cs (rest (p .talks))) (λ b. then (first (p .talks)) (λ t. then (nth (g .other) t) (λ u. k (b ++ (some u ∷ [])))))) ≡ false
 StartSays g a f cs many (Some c) = ((k : At → Bool) →
-  then (nth (g .procs) f) (λ p. eqb many (p .nums) && then (hands a cs (rest (p .talks))) (λ b. then (first (p .talks)) (λ t. then (nth (g .other) t) (λ u. k (b ++ (some u ∷ [])))))) ≡ k (stand c)) ×
-  (length (stand c) ≡ suc (length a))
+    then (nth (g .procs) f) (λ p. eqb many (p .nums) && then (hands a cs (rest (p .talks))) (λ b. then (first (p .talks)) (λ t. then (nth (g .other) t) (λ u. k (b ++ (some u ∷ [])))))) ≡ k (stand c)) ×
+    (length (stand c) ≡ suc (length a))
+
 -- becoming process f with so many numbers, handing on conversations cs, keeps
 abbrev pub becomes-well : Program → Bool → At → ℕ → List ℕ → ℕ → Bool
 becomes-well g r a f cs many = then (nth (g .procs) f) (λ p. eqb many (p .nums) && (alike r (eqb f 0) && then (hands a cs (p .talks)) (λ b. all-over g b)))

@@ -20,10 +20,12 @@ use Rattle.model.specs.Keeps.{At, Ways, ways, then, is-over, at-point, moves, h
 abbrev pub Verdict : List ℕ → List ℕ → Bool → Option ℕ → Type 0
 Verdict s x b None = b ≡ false
 Verdict s x b (Some j) = (b ≡ true) × (drop j s ≡ x)
+
 -- a place that is found lies behind place i, within the rows
 abbrev pub Behind : List ℕ → ℕ → Option ℕ → Type 0
 Behind s i None = Unit {0}
 Behind s i (Some j) = (i < j) × (j ≤ length s)
+
 abbrev pub Not-before : List ℕ → ℕ → Option ℕ → Type 0
 Not-before s i None = Unit {0}
 Not-before s i (Some j) = (i ≤ j) × (i ≤ length s → j ≤ length s)
@@ -31,6 +33,7 @@ Not-before s i (Some j) = (i ≤ j) × (i ≤ length s → j ≤ length s)
 -- whatever expression, or so many expressions, stand at place i: their variables are among n
 abbrev pub VariablesSay : List ℕ → ℕ → ℕ → ℕ → Option ℕ → Type 0
 VariablesSay s i d n r = (e : Expression) (x : List ℕ) → drop i s ≡ rowE e ++ x → deepE e ≤ d → Verdict s x (ok n e) r
+
 abbrev pub AllVariablesSay : List ℕ → ℕ → ℕ → ℕ → ℕ → Option ℕ → Type 0
 AllVariablesSay s i d n count r = (es : List Expression) (x : List ℕ) → length es ≡ count → drop i s ≡ rowEs es ++ x → deepEs es ≤ d → Verdict s x (oks n es) r
 
@@ -38,12 +41,15 @@ AllVariablesSay s i d n count r = (es : List Expression) (x : List ℕ) → leng
 abbrev pub KindSays : Program → At → ℕ → Option PointKind → Type 0
 KindSays g a c None = (k : Point → Bool) → at-point g a c k ≡ false
 KindSays g a c (Some q) = (k : Point → Bool) → at-point g a c k ≡ k (said q)
+
 -- Where a conversation goes on after an action: at one point, or at one of two.
 abbrev pub NextSays : Program → At → ℕ → (Point → Maybe ℕ) → Option ℕ → Type 0
 NextSays g a c next r = (k : ℕ → Bool) → moves g a c next k ≡ then (held r) k
+
 abbrev pub waysOf : Option Fork → Maybe Ways
 waysOf None = none
 waysOf (Some f) = some (ways (f .first) (f .second))
+
 abbrev pub WaysSay : Program → At → ℕ → (Point → Maybe Ways) → Option Fork → Type 0
 WaysSay g a c next r = (k : Ways → Bool) → moves g a c next k ≡ then (waysOf r) k
 

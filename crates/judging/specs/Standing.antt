@@ -14,9 +14,11 @@ use Rattle.model.specs.Keeps.{At}
 abbrev pub held : {A : Type 0} → Option A → Maybe A
 held None = none
 held (Some t) = some t
+
 -- the points at which the conversations are
 abbrev pub stand : Conversations → At
 stand c = map held (take (c .count) (c .points))
+
 -- one more conversation, unless there were sixteen
 abbrev pub Added : At → At → ℕ → Bool → Type 0
 Added a b t true = b ≡ a ++ (some t ∷ [])

@@ -25,7 +25,16 @@ fn moved(conversations: &Conversations, conversation: u32, point: u32) -> Conver
     after
 }
 
-pub fn look_at_give(p: &[u32], map: &Map, conversations: &Conversations, conversation: u32, value: usize, depth: u32, variables: u32, root: bool) -> Course
+pub fn look_at_give(
+    p: &[u32],
+    map: &Map,
+    conversations: &Conversations,
+    conversation: u32,
+    value: usize,
+    depth: u32,
+    variables: u32,
+    root: bool,
+) -> Course
     ensures behind { λ r. ⌜ CourseFrom (now (p .entry)) value r ⌝ }
     ensures says { λ r. ⌜ GiveSays (now (p .entry)) (now (map .entry)) conversation value depth variables root (stand (now (conversations .entry))) r ⌝ }
 {
@@ -38,7 +47,17 @@ pub fn look_at_give(p: &[u32], map: &Map, conversations: &Conversations, convers
     }
 }
 
-pub fn look_at_take(p: &[u32], map: &Map, conversations: &Conversations, conversation: u32, variable: u32, next: usize, depth: u32, variables: u32, root: bool) -> Course
+pub fn look_at_take(
+    p: &[u32],
+    map: &Map,
+    conversations: &Conversations,
+    conversation: u32,
+    variable: u32,
+    next: usize,
+    depth: u32,
+    variables: u32,
+    root: bool,
+) -> Course
     ensures behind { λ r. ⌜ CourseFrom (now (p .entry)) next r ⌝ }
     ensures says { λ r. ⌜ TakeSays (now (p .entry)) (now (map .entry)) conversation variable next depth variables root (stand (now (conversations .entry))) r ⌝ }
 {
@@ -51,7 +70,17 @@ pub fn look_at_take(p: &[u32], map: &Map, conversations: &Conversations, convers
     }
 }
 
-pub fn look_at_choose(p: &[u32], map: &Map, conversations: &Conversations, conversation: u32, way: u32, next: usize, depth: u32, variables: u32, root: bool) -> Course
+pub fn look_at_choose(
+    p: &[u32],
+    map: &Map,
+    conversations: &Conversations,
+    conversation: u32,
+    way: u32,
+    next: usize,
+    depth: u32,
+    variables: u32,
+    root: bool,
+) -> Course
     ensures behind { λ r. ⌜ CourseFrom (now (p .entry)) next r ⌝ }
     ensures says { λ r. ⌜ ChooseSays (now (p .entry)) (now (map .entry)) conversation way next depth variables root (stand (now (conversations .entry))) r ⌝ }
 {
@@ -65,12 +94,25 @@ pub fn look_at_choose(p: &[u32], map: &Map, conversations: &Conversations, conve
     }
 }
 
-pub fn look_at_offer(p: &[u32], map: &Map, conversations: &Conversations, conversation: u32, first: usize, depth: u32, variables: u32, root: bool) -> Course
+pub fn look_at_offer(
+    p: &[u32],
+    map: &Map,
+    conversations: &Conversations,
+    conversation: u32,
+    first: usize,
+    depth: u32,
+    variables: u32,
+    root: bool,
+) -> Course
     ensures behind { λ r. ⌜ CourseFrom (now (p .entry)) first r ⌝ }
     ensures says { λ r. ⌜ OfferSays (now (p .entry)) (now (map .entry)) conversation first depth variables root (stand (now (conversations .entry))) r ⌝ }
 {
     match after_offering(p, map, conversations, conversation) {
         None => Course::Careless,
-        Some(fork) => Course::Parted(first, moved(conversations, conversation, fork.first), moved(conversations, conversation, fork.second)),
+        Some(fork) => Course::Parted(
+            first,
+            moved(conversations, conversation, fork.first),
+            moved(conversations, conversation, fork.second),
+        ),
     }
 }

@@ -16,7 +16,12 @@ use rows::lookup::process_of;
 use rows::map::Map;
 
 // The conversations after a start, with the new one last, if what is handed on is what the process begins with.
-pub fn after_start(p: &[u32], map: &Map, conversations: &Conversations, call: &Call) -> Option<Conversations>
+pub fn after_start(
+    p: &[u32],
+    map: &Map,
+    conversations: &Conversations,
+    call: &Call,
+) -> Option<Conversations>
     requires { ⌜ now call .conversations + now call .count ≤ length (now p) ⌝ }
     ensures { λ r. ⌜ ((g : Program) (cs x : List ℕ) → Known (now (p .entry)) (now (map .entry)) g → length cs ≡ now (call .entry) .count →
         drop (now (call .entry) .conversations) (now (p .entry)) ≡ cs ++ x → length (stand (now (conversations .entry))) < 16 →
@@ -52,7 +57,13 @@ pub fn after_start(p: &[u32], map: &Map, conversations: &Conversations, call: &C
 }
 
 // Whether becoming a process keeps: it gets what it begins with, what is left is over, and process 0 becomes only itself.
-pub fn becomes_well(p: &[u32], map: &Map, conversations: &Conversations, call: &Call, root: bool) -> bool
+pub fn becomes_well(
+    p: &[u32],
+    map: &Map,
+    conversations: &Conversations,
+    call: &Call,
+    root: bool,
+) -> bool
     requires { ⌜ now call .conversations + now call .count ≤ length (now p) ⌝ }
     ensures { λ r. ⌜ ((g : Program) (cs x : List ℕ) → Known (now (p .entry)) (now (map .entry)) g → length cs ≡ now (call .entry) .count →
         drop (now (call .entry) .conversations) (now (p .entry)) ≡ cs ++ x →

@@ -15,7 +15,13 @@ use rows::map::Map;
 
 // Hands on conversations: so many, listed from one place on, have to be at the points that are listed from another
 // place on, each once. What is left after a refusal is not said.
-pub fn hand_on(p: &[u32], conversations: &mut Conversations, listed: usize, wanted: usize, count: usize) -> bool
+pub fn hand_on(
+    p: &[u32],
+    conversations: &mut Conversations,
+    listed: usize,
+    wanted: usize,
+    count: usize,
+) -> bool
     requires listed { ⌜ listed + count ≤ length (now p) ⌝ }
     requires wanted { ⌜ wanted + count ≤ length (now p) ⌝ }
     ensures { λ r. ⌜ ((cs ts x y : List ℕ) → length cs ≡ count → length ts ≡ count → drop listed (now (p .entry)) ≡ cs ++ x → drop wanted (now (p .entry)) ≡ ts ++ y →

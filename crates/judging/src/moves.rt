@@ -19,7 +19,12 @@ pub struct Fork {
 }
 
 // What the point of a conversation says, if it is at a point that is there.
-fn kind_of(p: &[u32], map: &Map, conversations: &Conversations, conversation: u32) -> Option<PointKind>
+fn kind_of(
+    p: &[u32],
+    map: &Map,
+    conversations: &Conversations,
+    conversation: u32,
+) -> Option<PointKind>
     ensures { λ r. ⌜ ((g : Program) → Known (now (p .entry)) (now (map .entry)) g → KindSays g (stand (now (conversations .entry))) conversation r) ⌝ }
 {
     match conversations.point(conversation) {
@@ -78,7 +83,12 @@ fn offered(kind: PointKind) -> Option<Fork>
 }
 
 // The point at which a conversation goes on after a give, if its point allows one; and likewise for the others.
-pub fn after_giving(p: &[u32], map: &Map, conversations: &Conversations, conversation: u32) -> Option<u32>
+pub fn after_giving(
+    p: &[u32],
+    map: &Map,
+    conversations: &Conversations,
+    conversation: u32,
+) -> Option<u32>
     ensures { λ r. ⌜ ((g : Program) → Known (now (p .entry)) (now (map .entry)) g → NextSays g (stand (now (conversations .entry))) conversation after-give r) ⌝ }
 {
     match kind_of(p, map, conversations, conversation) {
@@ -87,7 +97,12 @@ pub fn after_giving(p: &[u32], map: &Map, conversations: &Conversations, convers
     }
 }
 
-pub fn after_taking(p: &[u32], map: &Map, conversations: &Conversations, conversation: u32) -> Option<u32>
+pub fn after_taking(
+    p: &[u32],
+    map: &Map,
+    conversations: &Conversations,
+    conversation: u32,
+) -> Option<u32>
     ensures { λ r. ⌜ ((g : Program) → Known (now (p .entry)) (now (map .entry)) g → NextSays g (stand (now (conversations .entry))) conversation after-take r) ⌝ }
 {
     match kind_of(p, map, conversations, conversation) {
@@ -96,7 +111,12 @@ pub fn after_taking(p: &[u32], map: &Map, conversations: &Conversations, convers
     }
 }
 
-pub fn after_choosing(p: &[u32], map: &Map, conversations: &Conversations, conversation: u32) -> Option<Fork>
+pub fn after_choosing(
+    p: &[u32],
+    map: &Map,
+    conversations: &Conversations,
+    conversation: u32,
+) -> Option<Fork>
     ensures { λ r. ⌜ ((g : Program) → Known (now (p .entry)) (now (map .entry)) g → WaysSay g (stand (now (conversations .entry))) conversation after-choose r) ⌝ }
 {
     match kind_of(p, map, conversations, conversation) {
@@ -105,7 +125,12 @@ pub fn after_choosing(p: &[u32], map: &Map, conversations: &Conversations, conve
     }
 }
 
-pub fn after_offering(p: &[u32], map: &Map, conversations: &Conversations, conversation: u32) -> Option<Fork>
+pub fn after_offering(
+    p: &[u32],
+    map: &Map,
+    conversations: &Conversations,
+    conversation: u32,
+) -> Option<Fork>
     ensures { λ r. ⌜ ((g : Program) → Known (now (p .entry)) (now (map .entry)) g → WaysSay g (stand (now (conversations .entry))) conversation after-offer r) ⌝ }
 {
     match kind_of(p, map, conversations, conversation) {

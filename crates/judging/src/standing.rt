@@ -12,7 +12,10 @@ impl Conversations {
     pub fn none() -> Conversations
         ensures { λ r. ⌜ stand r ≡ [] ⌝ }
     {
-        Conversations { count: 0, points: [None; 16] }
+        Conversations {
+            count: 0,
+            points: [None; 16],
+        }
     }
 
     // The point of a conversation, if it is there and not handed on.

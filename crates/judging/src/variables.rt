@@ -21,7 +21,10 @@ pub fn variables_there(p: &[u32], at: usize, depth: u32, variables: u32) -> Opti
                 }
                 None
             }
-            Term::Pair { operator: _o, first } => match variables_there(p, first, depth - 1, variables) {
+            Term::Pair {
+                operator: _o,
+                first,
+            } => match variables_there(p, first, depth - 1, variables) {
                 None => None,
                 Some(second) => variables_there(p, second, depth - 1, variables),
             },
@@ -30,7 +33,13 @@ pub fn variables_there(p: &[u32], at: usize, depth: u32, variables: u32) -> Opti
 }
 
 // The place behind so many expressions one after the other from a place on, if all their variables are among so many.
-pub fn all_variables_there(p: &[u32], at: usize, count: u32, depth: u32, variables: u32) -> Option<usize>
+pub fn all_variables_there(
+    p: &[u32],
+    at: usize,
+    count: u32,
+    depth: u32,
+    variables: u32,
+) -> Option<usize>
     ensures behind { λ r. ⌜ Not-before (now (p .entry)) at r ⌝ }
     ensures says { λ r. ⌜ AllVariablesSay (now (p .entry)) at depth variables count r ⌝ }
 {

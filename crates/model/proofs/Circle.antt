@@ -1,10 +1,9 @@
 -- Where ends are held as a forest there is no circle: a walk along different lines that has once gone down goes down
 -- for good, and so one that comes back would have to arrive by the line that it left by.
 use mathlib.Core.Path.{_≡_, refl, sym, ap, _∙_}
-use mathlib.Core.Logic.{_⊎_, inl, inr}
 use mathlib.Core.List.{List, [], _∷_}
-use mathlib.Core.Option.{Option, some, none}
-use Prim.Native.Nat.{ℕ, zero, suc, _+_, _≤_, _<_}
+use mathlib.Core.Option.{some}
+use Prim.Native.Nat.{ℕ, zero, suc, _≤_, _<_}
 use native.Mathlib.Omega.{arith}
 use Rattle.model.specs.Program.{nth}
 use Rattle.model.specs.Steps.{Endpoint, Worker}
@@ -14,18 +13,24 @@ use Rattle.model.proofs.Forest.{Forest, Hangs, below, above}
 -- a line is not among these
 abbrev Missing : ℕ → List ℕ → Type 0
 Missing l ls = (n : ℕ) → nth ls n ≡ some l → ⊥
+
 different-first : (l : ℕ) (ls : List ℕ) → Different (l ∷ ls) → Missing l ls
 different-first l ls d n h = let z = d 0 (suc n) l refl h in omega arith
+
 different-rest : (l : ℕ) (ls : List ℕ) → Different (l ∷ ls) → Different ls
 different-rest l ls d m n x h k = let z = d (suc m) (suc n) x h k in omega arith
+
 missing-rest : (l x : ℕ) (ls : List ℕ) → Missing l (x ∷ ls) → Missing l ls
 missing-rest l x ls m n h = m (suc n) h
+
 missing-first : (l x : ℕ) (ls : List ℕ) → Missing l (x ∷ ls) → x ≡ l → ⊥
 missing-first l x ls m e = m 0 (ap some e)
+
 -- the last line of a walk
 abbrev last : ℕ → List ℕ → ℕ
 last l [] = l
 last l (x ∷ ls) = last x ls
+
 last-missing : (l x : ℕ) (ls : List ℕ) → (x ≡ l → ⊥) → Missing l ls → last x ls ≡ l → ⊥
 last-missing l x [] n m e = n e
 last-missing l x (y ∷ ls) n m e = last-missing l y ls (missing-first l y ls m) (missing-rest l y ls m) e
@@ -36,13 +41,16 @@ module _ (ws : List Worker) (f : Forest (Holds ws)) where
     down : f .rank i < f .rank j → f .up j .line ≡ l → Lies l i j
     rise : f .rank j < f .rank i → f .up i .line ≡ l → Lies l i j
     peak : f .up i .line ≡ l → f .up j .line ≡ l → (f .up i ≡ f .up j → ⊥) → Lies l i j
+
   lies : (l i j : ℕ) → Joined ws l i j → Lies l i j
   lies l i j joined = go (f .hangs i (joined .near) (joined .holds-near)) (f .hangs j (joined .far) (joined .holds-far))
     where
       levels : f .level (joined .near .line) ≡ f .level (joined .far .line)
       levels = ap (f .level) (joined .near-line ∙ sym (joined .far-line))
+
       line-of : (x e : Endpoint) → x ≡ e → e .line ≡ l → x .line ≡ l
       line-of x e p q = ap (λ (y : Endpoint). y .line) p ∙ q
+
       go : Hangs (f .rank) (f .level) (f .up) (f .top) i (joined .near) → Hangs (f .rank) (f .level) (f .up) (f .top) j (joined .far) → Lies l i j
       go (below z u) (below z′ u′) = peak (line-of _ _ u (joined .near-line)) (line-of _ _ u′ (joined .far-line)) (λ e. joined .sides (ap (λ (y : Endpoint). y .side) (sym u ∙ e ∙ u′)))
       go (below z u) (above z′ t) = rise (omega (arith, levels)) (line-of _ _ u (joined .near-line))
@@ -68,6 +76,7 @@ module _ (ws : List Worker) (f : Forest (Holds ws)) where
       came-down v =
           let r = descends ls x (w .0) k v (different-first x ls d) (different-rest x ls d) (w .2) in
           last-missing (f .up k .line) x ls (missing-first (f .up k .line) x ls m) (missing-rest (f .up k .line) x ls m) (sym (r .1))
+
       go : Lies x i (w .0) → f .rank k ≤ f .rank (w .0) → f .rank k ≤ f .rank i
       go (down z v) ih = absurd (came-down v)
       go (rise z v) ih = omega arith

@@ -1,13 +1,12 @@
 -- Every order comes to an end: each step lowers a number that begins as a function of the program and the turns.
-use mathlib.Core.Path.{_≡_, refl, sym, ap, _∙_}
+use mathlib.Core.Path.{_≡_, refl, ap, _∙_}
 use mathlib.Core.Bool.{Bool, true, false, cond}
 use mathlib.Core.List.{List, [], _∷_, _++_}
-use mathlib.Core.Option.{Option, some, none}
-use Prim.Native.Nat.{ℕ, zero, suc, _+_, _≤_, _<_, max}
+use mathlib.Core.Option.{some}
+use Prim.Native.Nat.{ℕ, zero, suc, _+_, _≤_, max}
 use native.Mathlib.Omega.{arith}
-use lib.ListN.{length}
 use lib.Dec.{eqb}
-use Rattle.model.specs.Program.{nth, put, value, Expression, Action, stop, give, take, choose, offer, set, if, show, start, become, Process, Program}
+use Rattle.model.specs.Program.{nth, put, value, Action, stop, give, take, choose, offer, set, if, show, start, become, Process, Program}
 use Rattle.model.specs.Steps.{State, running, stopped, spent, Worker, Configuration, Alone, stops, sets, ifs, shows, starts, becomes, starts-spent, becomes-spent, Together, passes, agrees, Step, alone, together, begin}
 use Rattle.model.specs.Theorems.{Counted, Ends}
 use Rattle.model.proofs.Lists.{nth-put-other}
@@ -45,8 +44,10 @@ abbrev weight : ℕ → Action → ℕ → State → ℕ
 weight k s l running = size s + bank k l
 weight k s l stopped = 0
 weight k s l spent = 0
+
 abbrev worth : ℕ → Worker → ℕ
 worth k w = weight k (w .todo) (w .left) (w .state)
+
 abbrev total : ℕ → List Worker → ℕ
 total k [] = 0
 total k (w ∷ ws) = worth k w + total k ws
@@ -70,7 +71,7 @@ cond-size false s t = omega arith
 
 -- acting alone, with what it starts, a process is worth less afterwards
 alone-lowers : (g : Program) (line : ℕ) (w w′ : Worker) (ws : List Worker) (ns : List ℕ) → w .state ≡ running → Alone g line w w′ ws ns →
-  suc (worth (largest (g .procs)) w′ + total (largest (g .procs)) ws) ≤ worth (largest (g .procs)) w
+    suc (worth (largest (g .procs)) w′ + total (largest (g .procs)) ws) ≤ worth (largest (g .procs)) w
 alone-lowers g line w w′ ws ns r (stops t) = let e = worth-running (largest (g .procs)) w stop _ r t refl in omega arith
 alone-lowers g line w w′ ws ns r (sets x a s t) = let e = worth-running (largest (g .procs)) w (set x a s) _ r t refl in omega arith
 alone-lowers g line w w′ ws ns r (ifs a s u t) =
@@ -101,7 +102,7 @@ together-lowers k w v w′ v′ r q (agrees c d j s t u a b f) =
     let h = cond-size (eqb j 0) t u in
     omega arith
 
-abbrev potential : Program → Configuration → ℕ
+abbrev pub potential : Program → Configuration → ℕ
 potential g a = total (largest (g .procs)) (a .workers)
 
 pub step-lowers : (g : Program) (a b : Configuration) → Step g a b → suc (potential g b) ≤ potential g a
@@ -117,7 +118,7 @@ step-lowers g a b (together i j w v w′ v′ d h k r q st) =
     omega arith
 
 -- a run of c steps costs c at least
-counted-costs : (g : Program) (turns c : ℕ) (a : Configuration) → Counted g turns c a → c + potential g a ≤ potential g (begin g turns)
+pub counted-costs : (g : Program) (turns c : ℕ) (a : Configuration) → Counted g turns c a → c + potential g a ≤ potential g (begin g turns)
 counted-costs g turns zero a h = let e = ap (potential g) h in omega arith
 counted-costs g turns (suc c) a h =
     let ih = counted-costs g turns c (h .0) (h .1) in

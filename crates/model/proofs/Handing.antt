@@ -2,17 +2,15 @@
 use mathlib.Core.Path.{_≡_, refl, sym, ap, _∙_}
 use mathlib.Core.Logic.{_⊎_, inl, inr}
 use mathlib.Core.Bool.{Bool, true, false, cond}
-use mathlib.Core.List.{List, [], _∷_, _++_, map}
+use mathlib.Core.List.{List, [], _∷_}
 use mathlib.Core.Option.{Option, some, none}
-use Prim.Native.Nat.{ℕ, zero, suc, _+_, _≤_, _<_}
+use Prim.Native.Nat.{ℕ, zero, suc}
 use native.Mathlib.Omega.{arith}
-use lib.ListN.{length}
-use lib.Dec.{eqb}
 use Rattle.model.specs.Program.{nth, or, put}
 use Rattle.model.specs.Keeps.{is, hands, begins}
 use Rattle.model.specs.Steps.{Endpoint, end, ends-of, without}
 use Rattle.model.specs.Picture.{Has, place, places}
-use Rattle.model.proofs.Lists.{look, same?, nth-put-same, nth-put-other, nth-put-split, nth-map, nth-map-back, map-put, map-agree}
+use Rattle.model.proofs.Lists.{same?, nth-put-other, nth-put-split, nth-map-back, map-put, map-agree}
 use Rattle.model.proofs.Patch.{moved, moved-same, moved-other}
 use Rattle.model.proofs.Keeping.{or-open}
 
@@ -23,6 +21,7 @@ Once es = (c d : ℕ) (e : Endpoint) → nth es c ≡ some (some e) → nth es d
 place-open : (point : Endpoint → ℕ) (o : Option Endpoint) (t : ℕ) → some t ≡ place point o → (e : Endpoint) × (o ≡ some e) × (t ≡ point e)
 place-open point none t h = grind arith
 place-open point (some e) t h = (e, refl, cc)
+
 -- a conversation at a point is an end at that point
 pub places-end : (point : Endpoint → ℕ) (es : List (Option Endpoint)) (c t : ℕ) → nth (places point es) c ≡ some (some t) → (e : Endpoint) × (nth es c ≡ some (some e)) × (t ≡ point e)
 places-end point es c t h =
@@ -37,8 +36,10 @@ places-agree point to es h = map-agree (place to) (place point) es (λ i o k. go
     go : (i : ℕ) (o : Option Endpoint) → nth es i ≡ some o → place to o ≡ place point o
     go i none k = refl
     go i (some e) k = ap some (h e (i, k))
+
 pub places-moved-other : (point : Endpoint → ℕ) (e : Endpoint) (m : ℕ) (es : List (Option Endpoint)) → (Has es e → ⊥) → places (moved point e m) es ≡ places point es
 places-moved-other point e m es n = places-agree point (moved point e m) es (λ d h. moved-other point e m d (λ q. n (rw q at h)))
+
 pub places-moved : (point : Endpoint → ℕ) (e : Endpoint) (m : ℕ) (es : List (Option Endpoint)) (c : ℕ) → Once es → nth es c ≡ some (some e) → places (moved point e m) es ≡ put (places point es) c (some m)
 places-moved point e m [] c once h = grind arith
 places-moved point e m (o ∷ es) zero once h =
@@ -68,6 +69,7 @@ put-none es c z e h = go (nth-put-split es c z none h)
     go : ((c ≡ z) × (some e ≡ none)) ⊎ ((c ≡ z → ⊥) × (nth es z ≡ some (some e))) → (nth es z ≡ some (some e)) × (c ≡ z → ⊥)
     go (inl k) = let b = k .1 in grind arith
     go (inr k) = (k .1, k .0)
+
 once-put : (es : List (Option Endpoint)) (c : ℕ) → Once es → Once (put es c none)
 once-put es c once x y e p q = once x y e (put-none es c x e p .0) (put-none es c y e q .0)
 
@@ -95,6 +97,7 @@ module _ {left : List (Option Endpoint)} where
       lift : Has left e ⊎ Has handed e → Has left e ⊎ Has (some d ∷ handed) e
       lift (inl k) = inl k
       lift (inr k) = inr (suc (k .0), k .1)
+
       go : (z ≡ h .0) ⊎ (z ≡ h .0 → ⊥) → (Has (put es z none) e → Has left e ⊎ Has handed e) → Has left e ⊎ Has (some d ∷ handed) e
       go (inl q) ih = let k = h .1 in let de : some (some d) ≡ some (some e) = sym p ∙ ap (nth es) q ∙ k in inr (0, grind arith)
       go (inr n) ih = lift (ih (h .0, nth-put-other es z (h .0) none n ∙ h .1))
@@ -121,6 +124,7 @@ module _ {left : List (Option Endpoint)} where
           let k = handed-from t e (x, h) in
           let b = put-none es z (k .0) e (k .1) in
           b .1 (once z (k .0) e (rw fe at p) (b .0))
+
       go : (x y : ℕ) → nth (some f ∷ handed) x ≡ some (some e) → nth (some f ∷ handed) y ≡ some (some e) → Once handed → x ≡ y
       go zero zero a b ih = refl
       go zero (suc y) a b ih = let fe : f ≡ e = cc in absurd (no y fe b)
@@ -131,6 +135,7 @@ module _ {left : List (Option Endpoint)} where
   pub handed-left-is : {es handed : List (Option Endpoint)} {cs : List ℕ} → Handed es cs handed left → without es cs ≡ left
   handed-left-is done = refl
   handed-left-is (hand z d p t) = handed-left-is t
+
   pub handed-ends-is : {es handed : List (Option Endpoint)} {cs : List ℕ} → Handed es cs handed left → (all : List (Option Endpoint)) → ((c : ℕ) (e : Endpoint) → nth es c ≡ some (some e) → nth all c ≡ some (some e)) → ends-of all cs ≡ handed
   handed-ends-is done all h = refl
   handed-ends-is (hand {es} z d p t) all h =
@@ -146,6 +151,7 @@ pub record Hands (point : Endpoint → ℕ) (es : List (Option Endpoint)) (cs ts
   pub parts : Handed es cs handed left
   pub begin-at : places point handed ≡ begins ts
   pub left-at : places point left ≡ b
+
 pub hands-open : (point : Endpoint → ℕ) (es : List (Option Endpoint)) (cs ts : List ℕ) (b : List (Option ℕ)) → hands (places point es) cs ts ≡ some b → Hands point es cs ts b
 hands-open point es [] [] b h = record { handed = []; left = es; parts = done; begin-at = refl; left-at = grind arith }
 hands-open point es [] (t ∷ ts) b h = grind arith
@@ -154,8 +160,9 @@ hands-open point es (c ∷ cs) (t ∷ ts) b h = go (is (or none (nth (places poi
   where
     is-some : (o : Option ℕ) → is o t ≡ true → o ≡ some t
     is-some o k = grind arith
+
     go : (x : Bool) → is (or none (nth (places point es) c)) t ≡ x → cond x (hands (put (places point es) c none) cs ts) none ≡ some b →
-      (hands (places point (put es c none)) cs ts ≡ some b → Hands point (put es c none) cs ts b) → Hands point es (c ∷ cs) (t ∷ ts) b
+        (hands (places point (put es c none)) cs ts ≡ some b → Hands point (put es c none) cs ts b) → Hands point es (c ∷ cs) (t ∷ ts) b
     go false k q more = grind arith
     go true k q more =
         let e = places-end point es c t (or-open _ t (is-some _ k)) in

@@ -1,14 +1,13 @@
 -- What keeping to conversations says, action by action and point by point: here alone `keeps` and `kept` are opened.
-use mathlib.Core.Path.{_≡_, refl, sym, ap, _∙_}
-use mathlib.Core.Logic.{_⊎_, inl, inr}
-use mathlib.Core.Bool.{Bool, true, false, _&&_, cond}
+use mathlib.Core.Path.{_≡_, refl, ap, _∙_}
+use mathlib.Core.Bool.{Bool, true, _&&_}
 use mathlib.Core.List.{List, [], _∷_, _++_}
 use mathlib.Core.Option.{Option, some, none}
-use Prim.Native.Nat.{ℕ, zero, suc, _+_, _≤_, _<_}
+use Prim.Native.Nat.{ℕ, zero, suc, _+_}
 use native.Mathlib.Omega.{arith}
 use lib.ListN.{length}
 use lib.Dec.{eqb, ltb}
-use Rattle.model.specs.Program.{nth, or, put, Point, over, gives, takes, chooses, offers, Expression, Action, stop, give, take, choose, offer, set, if, show, start, become, Process, Program}
+use Rattle.model.specs.Program.{nth, or, put, Point, over, gives, takes, chooses, offers, Action, stop, give, take, choose, offer, set, if, show, start, become, Process, Program}
 use Rattle.model.specs.Keeps.{then, is, Ways, ways, way, is-over, after-give, after-take, after-choose, after-offer, At, moves, all-over, ok, oks, hands, first, rest, alike, keeps, begins, all-keep, mutual-sides, mutual-ways, faces, points-fit, root, kept}
 use Rattle.model.specs.Picture.{Keeps-on, Mutual}
 use Rattle.model.proofs.Lists.{nth-below, nth-there}
@@ -16,13 +15,17 @@ use Rattle.model.proofs.Lists.{nth-below, nth-there}
 -- a conjunction, and a test of an option, that hold
 and-left : (x y : Bool) → (x && y) ≡ true → x ≡ true
 and-left x y h = grind arith
+
 and-right : (x y : Bool) → (x && y) ≡ true → y ≡ true
 and-right x y h = grind arith
+
 then-open : {A : Type 0} (o : Option A) (k : A → Bool) → then o k ≡ true → (x : A) × (o ≡ some x) × (k x ≡ true)
 then-open none k h = grind arith
 then-open (some x) k h = (x, refl, h)
+
 is-open : (o : Option ℕ) (n : ℕ) → is o n ≡ true → o ≡ some n
 is-open o n h = grind arith
+
 pub or-open : {A : Type 0} (o : Option (Option A)) (x : A) → or none o ≡ some x → o ≡ some (some x)
 or-open o x h = grind arith
 
@@ -34,6 +37,7 @@ pub record Moves {A : Type 0} (g : Program) (a : At) (c : ℕ) (after : Point �
   pub here : nth a c ≡ some (some place)
   pub is-point : nth (g .points) place ≡ some point
   pub allowed : after point ≡ some goes
+
 moves-open : {A : Type 0} (g : Program) (a : At) (c : ℕ) (after : Point → Option A) (k : A → Bool) → moves g a c after k ≡ true → (m : Moves g a c after) × (k (m .goes) ≡ true)
 moves-open {A} g a c after k h =
     let t : (t : ℕ) × (or none (nth a c) ≡ some t) × (then (nth (g .points) t) (λ p. then (after p) k) ≡ true) = then-open (or none (nth a c)) (λ t. then (nth (g .points) t) (λ p. then (after p) k)) h in
@@ -44,8 +48,10 @@ moves-open {A} g a c after k h =
 -- every conversation that is left is over
 abbrev pub Over : Program → At → Type 0
 Over g a = (c t : ℕ) → nth a c ≡ some (some t) → nth (g .points) t ≡ some over
+
 is-over-open : (p : Point) → is-over p ≡ true → p ≡ over
 is-over-open p h = grind arith
+
 all-over-open : (g : Program) (a : At) → all-over g a ≡ true → Over g a
 all-over-open g [] h c t e = grind arith
 all-over-open g (none ∷ a) h zero t e = grind arith
@@ -70,6 +76,7 @@ pub record Starts (g : Program) (f : ℕ) (cs : List ℕ) (s : Action) (a : At) 
   pub hands-on : hands a cs handed ≡ some left
   pub sides : nth (g .other) new ≡ some ours
   pub goes-on : Keeps-on g s (left ++ (some ours ∷ []))
+
 pub record Becomes (g : Program) (f : ℕ) (cs : List ℕ) (a : At) : Type 0 where
   pub process : Process
   pub left : At
@@ -133,15 +140,20 @@ pub data Dual (g : Program) : Point → Point → Type 0 where
 
 pub mutual-turn : (g : Program) (x y : ℕ) → Mutual g x y → Mutual g y x
 mutual-turn g x y h = (h .1, h .0)
+
 sides-open : (g : Program) (x y : ℕ) → mutual-sides g x y ≡ true → Mutual g x y
 sides-open g x y h = (is-open (nth (g .other) x) y (and-left _ _ h), is-open (nth (g .other) y) x (and-right _ _ h))
+
 -- what the tests of a point find
 pub after-give-is : (p : Point) (n : ℕ) → after-give p ≡ some n → p ≡ gives n
 after-give-is p n h = grind arith
+
 pub after-take-is : (p : Point) (n : ℕ) → after-take p ≡ some n → p ≡ takes n
 after-take-is p n h = grind arith
+
 pub after-choose-is : (p : Point) (m n : ℕ) → after-choose p ≡ some (ways m n) → p ≡ chooses m n
 after-choose-is p m n h = grind arith
+
 pub after-offer-is : (p : Point) (m n : ℕ) → after-offer p ≡ some (ways m n) → p ≡ offers m n
 after-offer-is p m n h = grind arith
 
@@ -177,7 +189,7 @@ pub record Fit (g : Program) (x y : ℕ) : Type 0 where
   pub dual : Dual g this that
 
 points-open : (g : Program) (i : ℕ) (ps : List Point) → points-fit g i ps ≡ true → (k m : ℕ) (p : Point) → m ≡ i + k → nth ps k ≡ some p →
-  (j : ℕ) × Mutual g m j × (q : Point) × (nth (g .points) j ≡ some q) × Dual g p q
+    (j : ℕ) × Mutual g m j × (q : Point) × (nth (g .points) j ≡ some q) × Dual g p q
 points-open g i [] h k m p e n = grind arith
 points-open g i (r ∷ ps) h zero m p e n =
     let j : (j : ℕ) × (nth (g .other) i ≡ some j) × ((mutual-sides g i j && then (nth (g .points) j) (faces g r)) ≡ true) = then-open (nth (g .other) i) (λ j. mutual-sides g i j && then (nth (g .points) j) (faces g r)) (and-left _ (points-fit g (suc i) ps) h) in
@@ -207,23 +219,30 @@ pub record Good (g : Program) : Type 0 where
 
 pub good : (g : Program) → length (g .other) ≡ length (g .points) → kept g ≡ true → Good g
 good g len h = record {
-    bodies = λ f p e. all-keep-open g 0 (g .procs) (and-right (points-fit g 0 (g .points)) _ rest-holds) f p e;
-    sides = λ x y e. sides-of x y e;
-    fits = λ x y m. fit-of x y m;
-    root = λ p e. root-of p e }
+  bodies = λ f p e. all-keep-open g 0 (g .procs) (and-right (points-fit g 0 (g .points)) _ rest-holds) f p e;
+  sides = λ x y e. sides-of x y e;
+  fits = λ x y m. fit-of x y m;
+  root = λ p e. root-of p e;
+}
   where
     rest-holds : (points-fit g 0 (g .points) && all-keep g 0 (g .procs)) ≡ true
     rest-holds = and-right (root g) _ h
+
     point-at : (x y : ℕ) → nth (g .other) x ≡ some y → (p : Point) × (nth (g .points) x ≡ some p)
     point-at x y e = let b = nth-below (g .other) x e in nth-there (g .points) x (omega arith)
+
     fit-at : (x y : ℕ) (e : nth (g .other) x ≡ some y) → (j : ℕ) × Mutual g x j × (q : Point) × (nth (g .points) j ≡ some q) × Dual g (point-at x y e .0) q
     fit-at x y e = points-open g 0 (g .points) (and-left _ (all-keep g 0 (g .procs)) rest-holds) x x (point-at x y e .0) (omega arith) (point-at x y e .1)
+
     same-side : (x y : ℕ) (e : nth (g .other) x ≡ some y) → fit-at x y e .0 ≡ y
     same-side x y e = let m = fit-at x y e .1 .0 in cc
+
     sides-of : (x y : ℕ) → nth (g .other) x ≡ some y → Mutual g x y
     sides-of x y e = rw (same-side x y e) at (fit-at x y e .1)
+
     fit-of : (x y : ℕ) → Mutual g x y → Fit g x y
     fit-of x y m = record { this = point-at x y (m .0) .0; that = fit-at x y (m .0) .2; is-this = point-at x y (m .0) .1; is-that = rw (same-side x y (m .0)) at (fit-at x y (m .0) .3); dual = fit-at x y (m .0) .4 }
+
     root-of : (p : Process) → nth (g .procs) 0 ≡ some p → p .talks ≡ []
     root-of p e =
         let q : (q : Process) × (nth (g .procs) 0 ≡ some q) × ((eqb (length (q .talks)) 0 && eqb (q .nums) 0) ≡ true) = then-open (nth (g .procs) 0) (λ p. eqb (length (p .talks)) 0 && eqb (p .nums) 0) (and-left (root g) _ h) in
@@ -237,6 +256,7 @@ dual-over g p q (gives-takes m) h = grind arith
 dual-over g p q (takes-gives m) h = grind arith
 dual-over g p q (chooses-offers m n) h = grind arith
 dual-over g p q (offers-chooses m n) h = grind arith
+
 -- where one side is not over, the other side is not
 pub not-over-turn : (g : Program) → Good g → (x y : ℕ) → Mutual g x y → (nth (g .points) x ≡ some over → ⊥) → nth (g .points) y ≡ some over → ⊥
 not-over-turn g gd x y m n h =

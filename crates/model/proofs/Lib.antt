@@ -1,12 +1,20 @@
--- The proofs of the theorems.
+-- The proofs of the theorems, in the order in which they build on one another.
 pub mod Writing
 pub mod Lists
+pub mod Patch
 pub mod Ends
 pub mod Keeping
-pub mod Patch
 pub mod Handing
 pub mod Forest
 pub mod Invariant
 pub mod Sound
 pub mod Circle
 pub mod Pictured
+pub mod Progress
+pub mod NeverJams
+pub mod Renaming
+pub mod Determined
+pub mod Diamond
+pub mod Orders
+pub mod Decided
+pub mod Shop

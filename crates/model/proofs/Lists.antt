@@ -54,6 +54,16 @@ same? (suc i) (suc j) = go (same? i j)
     go (inl e) = inl (ap suc e)
     go (inr d) = inr (λ e. d (omega arith))
 
+-- less or not
+pub below? : (i j : ℕ) → (i < j) ⊎ (j ≤ i)
+below? i zero = inr (omega arith)
+below? zero (suc j) = inl (omega arith)
+below? (suc i) (suc j) = go (below? i j)
+  where
+    go : (i < j) ⊎ (j ≤ i) → (suc i < suc j) ⊎ (suc j ≤ suc i)
+    go (inl h) = inl (omega arith)
+    go (inr h) = inr (omega arith)
+
 pub nth-put-split : {A : Type 0} (xs : List A) (i j : ℕ) (v : A) {x : A} → nth (put xs i v) j ≡ some x → ((i ≡ j) × (x ≡ v)) ⊎ ((i ≡ j → ⊥) × (nth xs j ≡ some x))
 nth-put-split xs i j v {x} h = go (same? i j)
   where
@@ -61,14 +71,10 @@ nth-put-split xs i j v {x} h = go (same? i j)
     here [] k u y e = grind arith
     here (z ∷ ys) zero u y e = cc
     here (z ∷ ys) (suc k) u y e = here ys k u y e
+
     go : (i ≡ j) ⊎ (i ≡ j → ⊥) → ((i ≡ j) × (x ≡ v)) ⊎ ((i ≡ j → ⊥) × (nth xs j ≡ some x))
     go (inl e) = inl (e, here xs i v x (rw (← e) at h))
     go (inr d) = inr (d, sym (nth-put-other xs i j v d) ∙ h)
-
-pub put-put-same : {A : Type 0} (xs : List A) (i : ℕ) (v u : A) → put (put xs i v) i u ≡ put xs i u
-put-put-same [] i v u = refl
-put-put-same (x ∷ xs) zero v u = refl
-put-put-same (x ∷ xs) (suc i) v u = ap (λ ys. x ∷ ys) (put-put-same xs i v u)
 
 pub put-put-other : {A : Type 0} (xs : List A) (i j : ℕ) (v u : A) → (i ≡ j → ⊥) → put (put xs i v) j u ≡ put (put xs j u) i v
 put-put-other [] i j v u d = refl
@@ -76,10 +82,6 @@ put-put-other (x ∷ xs) zero zero v u d = absurd (d refl)
 put-put-other (x ∷ xs) zero (suc j) v u d = refl
 put-put-other (x ∷ xs) (suc i) zero v u d = refl
 put-put-other (x ∷ xs) (suc i) (suc j) v u d = ap (λ ys. x ∷ ys) (put-put-other xs i j v u (λ e. d (ap suc e)))
-
-pub append-nil : {A : Type 0} (xs : List A) → xs ++ [] ≡ xs
-append-nil [] = refl
-append-nil (x ∷ xs) = ap (λ ys. x ∷ ys) (append-nil xs)
 
 pub put-append : {A : Type 0} (xs ys : List A) (i : ℕ) (v : A) → i < length xs → put (xs ++ ys) i v ≡ put xs i v ++ ys
 put-append [] ys i v h = absurd (omega arith)
@@ -134,14 +136,6 @@ map-put f [] i v = refl
 map-put f (x ∷ xs) zero v = refl
 map-put f (x ∷ xs) (suc i) v = ap (λ ys. f x ∷ ys) (map-put f xs i v)
 
-pub map-append : {A B : Type 0} (f : A → B) (xs ys : List A) → map f (xs ++ ys) ≡ map f xs ++ map f ys
-map-append f [] ys = refl
-map-append f (x ∷ xs) ys = ap (λ zs. f x ∷ zs) (map-append f xs ys)
-
-pub length-map : {A B : Type 0} (f : A → B) (xs : List A) → length (map f xs) ≡ length xs
-length-map f [] = refl
-length-map f (x ∷ xs) = ap suc (length-map f xs)
-
 -- maps that do the same at each element of a list
 pub map-agree : {A B : Type 0} (f g : A → B) (xs : List A) → ((i : ℕ) (x : A) → nth xs i ≡ some x → f x ≡ g x) → map f xs ≡ map g xs
 map-agree f g [] h = refl
@@ -150,7 +144,3 @@ map-agree f g (x ∷ xs) h = let a = h 0 x refl in let b = map-agree f g xs (λ 
 pub map-same : {A : Type 0} (f : A → A) (xs : List A) → ((i : ℕ) (x : A) → nth xs i ≡ some x → f x ≡ x) → map f xs ≡ xs
 map-same f [] h = refl
 map-same f (x ∷ xs) h = let a = h 0 x refl in let b = map-same f xs (λ i y e. h (suc i) y e) in cc
-
-pub map-map : {A B C : Type 0} (g : B → C) (f : A → B) (xs : List A) → map g (map f xs) ≡ map (λ x. g (f x)) xs
-map-map g f [] = refl
-map-map g f (x ∷ xs) = ap (λ ys. g (f x) ∷ ys) (map-map g f xs)

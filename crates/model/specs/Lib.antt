@@ -4,6 +4,8 @@ pub mod Program
 pub mod Steps
 pub mod Keeps
 pub mod Picture
+pub mod Waiting
 pub mod Rows
-pub mod Theorems
+pub mod Same
 pub mod Examples
+pub mod Theorems

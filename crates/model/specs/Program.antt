@@ -10,11 +10,13 @@ abbrev pub nth : {A : Type 0} → List A → ℕ → Option A
 nth [] n = none
 nth (x ∷ xs) zero = some x
 nth (x ∷ xs) (suc n) = nth xs n
+
 -- the list with another element at a place; as it was where there is no such place
 abbrev pub put : {A : Type 0} → List A → ℕ → A → List A
 put [] n v = []
 put (x ∷ xs) zero v = v ∷ xs
 put (x ∷ xs) (suc n) v = x ∷ put xs n v
+
 -- what an option holds, or else a default
 abbrev pub or : {A : Type 0} → A → Option A → A
 or a none = a
@@ -69,6 +71,7 @@ pub record Program : Type 0 where
 abbrev pub bit : Bool → ℕ
 bit true = 1
 bit false = 0
+
 -- the value of an expression; arithmetic wraps at 32 bits, and a variable that is not there is 0
 abbrev pub value : List ℕ → Expression → ℕ
 value vs (num n) = n
@@ -77,6 +80,7 @@ value vs (add a b) = (value vs a + value vs b) % 2 ^ 32
 value vs (sub a b) = (value vs a + 2 ^ 32 - value vs b) % 2 ^ 32
 value vs (mul a b) = value vs a * value vs b % 2 ^ 32
 value vs (less a b) = bit (ltb (value vs a) (value vs b))
+
 -- the values of several expressions
 abbrev pub values : List ℕ → List Expression → List ℕ
 values vs [] = []

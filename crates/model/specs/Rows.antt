@@ -12,9 +12,11 @@ rowP (gives n) = 1 ∷ n ∷ []
 rowP (takes n) = 2 ∷ n ∷ []
 rowP (chooses n m) = 3 ∷ n ∷ m ∷ []
 rowP (offers n m) = 4 ∷ n ∷ m ∷ []
+
 abbrev pub rowPs : List Point → List ℕ
 rowPs [] = []
 rowPs (p ∷ ps) = rowP p ++ rowPs ps
+
 -- the writing of an expression, and of several
 abbrev pub rowE : Expression → List ℕ
 rowE (num n) = 0 ∷ n ∷ []
@@ -23,9 +25,11 @@ rowE (add a b) = 2 ∷ (rowE a ++ rowE b)
 rowE (sub a b) = 3 ∷ (rowE a ++ rowE b)
 rowE (mul a b) = 4 ∷ (rowE a ++ rowE b)
 rowE (less a b) = 5 ∷ (rowE a ++ rowE b)
+
 abbrev pub rowEs : List Expression → List ℕ
 rowEs [] = []
 rowEs (e ∷ es) = rowE e ++ rowEs es
+
 -- the writing of what a process does
 abbrev pub rowA : Action → List ℕ
 rowA stop = 0 ∷ []
@@ -38,12 +42,15 @@ rowA (if e s t) = 6 ∷ (rowE e ++ (rowA s ++ rowA t))
 rowA (show e s) = 7 ∷ (rowE e ++ rowA s)
 rowA (start f cs es s) = 8 ∷ f ∷ length cs ∷ (cs ++ (length es ∷ (rowEs es ++ rowA s)))
 rowA (become f cs es) = 9 ∷ f ∷ length cs ∷ (cs ++ (length es ∷ rowEs es))
+
 -- the writing of a process, of several, and of a program
 abbrev pub rowR : Process → List ℕ
 rowR p = length (p .talks) ∷ (p .talks ++ (p .nums ∷ p .vars ∷ rowA (p .body)))
+
 abbrev pub rowRs : List Process → List ℕ
 rowRs [] = []
 rowRs (p ∷ ps) = rowR p ++ rowRs ps
+
 abbrev pub rowG : Program → List ℕ
 rowG g = length (g .points) ∷ (rowPs (g .points) ++ (g .other ++ rowRs (g .procs)))
 
@@ -56,9 +63,11 @@ deepE (add a b) = suc (max (deepE a) (deepE b))
 deepE (sub a b) = suc (max (deepE a) (deepE b))
 deepE (mul a b) = suc (max (deepE a) (deepE b))
 deepE (less a b) = suc (max (deepE a) (deepE b))
+
 abbrev pub deepEs : List Expression → ℕ
 deepEs [] = 0
 deepEs (e ∷ es) = max (deepE e) (deepEs es)
+
 abbrev pub deep : Action → ℕ
 deep stop = 0
 deep (give c e s) = max (deepE e) (deep s)
@@ -70,6 +79,7 @@ deep (if e s t) = max (deepE e) (suc (max (deep s) (deep t)))
 deep (show e s) = max (deepE e) (deep s)
 deep (start f cs es s) = max (deepEs es) (deep s)
 deep (become f cs es) = deepEs es
+
 -- how many conversations a process gets by starting others, along the worst way
 abbrev pub new : Action → ℕ
 new stop = 0
@@ -90,9 +100,11 @@ pub record Fine (p : Process) : Type 0 where
   pub vars : p .vars ≤ 16
   pub nums : p .nums ≤ p .vars
   pub nested : deep (p .body) ≤ 256
+
 abbrev pub AllFine : List Process → Type 0
 AllFine [] = Unit {0}
 AllFine (p ∷ ps) = Fine p × AllFine ps
+
 -- these words are the writing of this program, which is within the limits: 16,384 words, 256 points, each with
 -- its other side's, and 64 processes
 pub record Reads (s : List ℕ) (g : Program) : Type 0 where

@@ -26,6 +26,7 @@ pub record CallIs (s : List ℕ) (k : Call) (f : ℕ) (cs : List ℕ) (es : List
   pub listed : drop (k .conversations) s ≡ cs ++ (length es ∷ (rowEs es ++ y))
   pub expressions : k .expressions ≡ length es
   pub numbers : drop (k .numbers) s ≡ rowEs es ++ y
+
 -- An instruction at place i is the beginning of an action with the words x behind it.
 pub data Standing (s : List ℕ) (i : ℕ) (x : List ℕ) : Instruction → Action → Type 0 where
   at-stop : drop (i + 1) s ≡ x → Standing s i x Stop stop
@@ -51,74 +52,78 @@ call-made i f cs es = record { process = f; conversations = i + 3; count = lengt
 module _ (s : List ℕ) (i w f : ℕ) (cs : List ℕ) (es : List Expression) (y : List ℕ) (h : drop i s ≡ w ∷ f ∷ length cs ∷ (cs ++ (length es ∷ (rowEs es ++ y)))) where
   call-listed : drop (i + 3) s ≡ cs ++ (length es ∷ (rowEs es ++ y))
   call-listed = rest-at s i 3 h
+
   call-rest : drop (i + 3 + length cs) s ≡ length es ∷ (rowEs es ++ y)
   call-rest = rest-at s (i + 3) (length cs) call-listed ∙ drop-append-seam cs (length es ∷ (rowEs es ++ y))
+
   call-numbers : drop (i + 4 + length cs) s ≡ rowEs es ++ y
   call-numbers =
-    let e : i + 4 + length cs ≡ i + 3 + length cs + 1 = omega arith in
-    rw e (rest-at s (i + 3 + length cs) 1 call-rest)
+      let e : i + 4 + length cs ≡ i + 3 + length cs + 1 = omega arith in
+      rw e (rest-at s (i + 3 + length cs) 1 call-rest)
+
   call-is : CallIs s (call-made i f cs es) f cs es y
   unfolding call-made
   call-is = record { process = refl; count = refl; listed = call-listed; expressions = refl; numbers = call-numbers }
+
   call-found : callAt s i ≡ Some (call-made i f cs es)
   unfolding call-made
   call-found =
-    let a = word-at s i 1 h in
-    let b = word-at s i 2 h in
-    let m = word-here s (i + 3 + length cs) call-rest in
-    let n = words-left s i h in
-    let l = length-append cs (length es ∷ (rowEs es ++ y)) in
-    grind arith
+      let a = word-at s i 1 h in
+      let b = word-at s i 2 h in
+      let m = word-here s (i + 3 + length cs) call-rest in
+      let n = words-left s i h in
+      let l = length-append cs (length es ∷ (rowEs es ++ y)) in
+      grind arith
 
 pub instruction-found : (s : List ℕ) (i : ℕ) (t : Action) (x : List ℕ) → drop i s ≡ rowA t ++ x → Found s i x t
 instruction-found s i stop x h =
-  let a = word-here s i h in
-  let n = words-left s i h in
-  record { it = Stop; is = grind arith; standing = at-stop (rest-at s i 1 h) }
+    let a = word-here s i h in
+    let n = words-left s i h in
+    record { it = Stop; is = grind arith; standing = at-stop (rest-at s i 1 h) }
 instruction-found s i (give c e t) x h =
-  let a = word-here s i h in
-  let b = word-at s i 1 h in
-  let n = words-left s i h in
-  record { it = Give c (i + 2); is = grind arith; standing = at-give (rest-at s i 2 h ∙ append-assoc (rowE e) (rowA t) x) }
+    let a = word-here s i h in
+    let b = word-at s i 1 h in
+    let n = words-left s i h in
+    record { it = Give c (i + 2); is = grind arith; standing = at-give (rest-at s i 2 h ∙ append-assoc (rowE e) (rowA t) x) }
 instruction-found s i (take c y t) x h =
-  let a = word-here s i h in
-  let b = word-at s i 1 h in
-  let d = word-at s i 2 h in
-  let n = words-left s i h in
-  record { it = Take c y (i + 3); is = grind arith; standing = at-take (rest-at s i 3 h) }
+    let a = word-here s i h in
+    let b = word-at s i 1 h in
+    let d = word-at s i 2 h in
+    let n = words-left s i h in
+    record { it = Take c y (i + 3); is = grind arith; standing = at-take (rest-at s i 3 h) }
 instruction-found s i (choose c k t) x h =
-  let a = word-here s i h in
-  let b = word-at s i 1 h in
-  let d = word-at s i 2 h in
-  let n = words-left s i h in
-  record { it = Choose c k (i + 3); is = grind arith; standing = at-choose (rest-at s i 3 h) }
+    let a = word-here s i h in
+    let b = word-at s i 1 h in
+    let d = word-at s i 2 h in
+    let n = words-left s i h in
+    record { it = Choose c k (i + 3); is = grind arith; standing = at-choose (rest-at s i 3 h) }
 instruction-found s i (offer c t u) x h =
-  let a = word-here s i h in
-  let b = word-at s i 1 h in
-  let n = words-left s i h in
-  record { it = Offer c (i + 2); is = grind arith; standing = at-offer (rest-at s i 2 h ∙ append-assoc (rowA t) (rowA u) x) }
+    let a = word-here s i h in
+    let b = word-at s i 1 h in
+    let n = words-left s i h in
+    record { it = Offer c (i + 2); is = grind arith; standing = at-offer (rest-at s i 2 h ∙ append-assoc (rowA t) (rowA u) x) }
 instruction-found s i (set y e t) x h =
-  let a = word-here s i h in
-  let b = word-at s i 1 h in
-  let n = words-left s i h in
-  record { it = Set y (i + 2); is = grind arith; standing = at-set (rest-at s i 2 h ∙ append-assoc (rowE e) (rowA t) x) }
+    let a = word-here s i h in
+    let b = word-at s i 1 h in
+    let n = words-left s i h in
+    record { it = Set y (i + 2); is = grind arith; standing = at-set (rest-at s i 2 h ∙ append-assoc (rowE e) (rowA t) x) }
 instruction-found s i (if e t u) x h =
-  let a = word-here s i h in
-  let n = words-left s i h in
-  record { it = If (i + 1); is = grind arith; standing = at-if (rest-at s i 1 h ∙ simp append-assoc) }
+    let a = word-here s i h in
+    let n = words-left s i h in
+    record { it = If (i + 1); is = grind arith; standing = at-if (rest-at s i 1 h ∙ simp append-assoc) }
 instruction-found s i (show e t) x h =
-  let a = word-here s i h in
-  let n = words-left s i h in
-  record { it = Show (i + 1); is = grind arith; standing = at-show (rest-at s i 1 h ∙ append-assoc (rowE e) (rowA t) x) }
+    let a = word-here s i h in
+    let n = words-left s i h in
+    record { it = Show (i + 1); is = grind arith; standing = at-show (rest-at s i 1 h ∙ append-assoc (rowE e) (rowA t) x) }
 instruction-found s i (start f cs es t) x h =
-  let h′ : drop i s ≡ 8 ∷ f ∷ length cs ∷ (cs ++ (length es ∷ (rowEs es ++ (rowA t ++ x)))) = h ∙ simp append-assoc in
-  let k = call-found s i 8 f cs es (rowA t ++ x) h′ in
-  let a = word-here s i h in
-  let n = words-left s i h in
-  record { it = Start (call-made i f cs es); is = grind arith; standing = at-start (call-is s i 8 f cs es (rowA t ++ x) h′) }
+    let h′ : drop i s ≡ 8 ∷ f ∷ length cs ∷ (cs ++ (length es ∷ (rowEs es ++ (rowA t ++ x)))) = h ∙ simp append-assoc in
+    let k = call-found s i 8 f cs es (rowA t ++ x) h′ in
+    let a = word-here s i h in
+    let n = words-left s i h in
+    record { it = Start (call-made i f cs es); is = grind arith; standing = at-start (call-is s i 8 f cs es (rowA t ++ x) h′) }
 instruction-found s i (become f cs es) x h =
-  let h′ : drop i s ≡ 9 ∷ f ∷ length cs ∷ (cs ++ (length es ∷ (rowEs es ++ x))) = h ∙ simp append-assoc in
-  let k = call-found s i 9 f cs es x h′ in
-  let a = word-here s i h in
-  let n = words-left s i h in
-  record { it = Become (call-made i f cs es); is = grind arith; standing = at-become (call-is s i 9 f cs es x h′) }
+    let h′ : drop i s ≡ 9 ∷ f ∷ length cs ∷ (cs ++ (length es ∷ (rowEs es ++ x))) = h ∙ simp append-assoc in
+    let k = call-found s i 9 f cs es x h′ in
+    let a = word-here s i h in
+    let n = words-left s i h in
+    record { it = Become (call-made i f cs es); is = grind arith; standing = at-become (call-is s i 9 f cs es x h′) }

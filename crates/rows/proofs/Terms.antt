@@ -24,16 +24,19 @@ operation Sum a b = add a b
 operation Difference a b = sub a b
 operation Product a b = mul a b
 operation Less a b = less a b
+
 pub rowE-operation : (o : Operator) (a b : Expression) → rowE (operation o a b) ≡ operator-code o ∷ (rowE a ++ rowE b)
 rowE-operation Sum a b = refl
 rowE-operation Difference a b = refl
 rowE-operation Product a b = refl
 rowE-operation Less a b = refl
+
 pub deepE-operation : (o : Operator) (a b : Expression) → deepE (operation o a b) ≡ suc (max (deepE a) (deepE b))
 deepE-operation Sum a b = refl
 deepE-operation Difference a b = refl
 deepE-operation Product a b = refl
 deepE-operation Less a b = refl
+
 pub ok-operation : (n : ℕ) (o : Operator) (a b : Expression) → ok n (operation o a b) ≡ ok n a && ok n b
 ok-operation n Sum a b = refl
 ok-operation n Difference a b = refl
@@ -45,6 +48,7 @@ pub data TermStanding (s : List ℕ) (i : ℕ) (x : List ℕ) : Term → Express
   at-num : {n : ℕ} → drop (i + 2) s ≡ x → TermStanding s i x (Number n) (num n)
   at-var : {n : ℕ} → drop (i + 2) s ≡ x → TermStanding s i x (Variable n) (var n)
   at-pair : {o : Operator} {f : ℕ} (a b : Expression) → drop f s ≡ rowE a ++ (rowE b ++ x) → TermStanding s i x (Pair o f) (operation o a b)
+
 pub record TermFound (s : List ℕ) (i : ℕ) (x : List ℕ) (e : Expression) : Type 0 where
   pub it : Term
   pub is : termAt s i ≡ Some it
@@ -56,28 +60,28 @@ pair-found s i o a b x h k = record { it = Pair o (i + 1); is = k; standing = at
 -- What stands at a place is found there.
 pub term-found : (s : List ℕ) (i : ℕ) (e : Expression) (x : List ℕ) → drop i s ≡ rowE e ++ x → TermFound s i x e
 term-found s i (num n) x h =
-  let a = word-here s i h in
-  let b = word-at s i 1 h in
-  let n′ = words-left s i h in
-  record { it = Number n; is = grind arith; standing = at-num (rest-at s i 2 h) }
+    let a = word-here s i h in
+    let b = word-at s i 1 h in
+    let n′ = words-left s i h in
+    record { it = Number n; is = grind arith; standing = at-num (rest-at s i 2 h) }
 term-found s i (var n) x h =
-  let a = word-here s i h in
-  let b = word-at s i 1 h in
-  let n′ = words-left s i h in
-  record { it = Variable n; is = grind arith; standing = at-var (rest-at s i 2 h) }
+    let a = word-here s i h in
+    let b = word-at s i 1 h in
+    let n′ = words-left s i h in
+    record { it = Variable n; is = grind arith; standing = at-var (rest-at s i 2 h) }
 term-found s i (add p q) x h =
-  let a = word-here s i h in
-  let n = words-left s i h in
-  pair-found s i Sum p q x h (grind arith)
+    let a = word-here s i h in
+    let n = words-left s i h in
+    pair-found s i Sum p q x h (grind arith)
 term-found s i (sub p q) x h =
-  let a = word-here s i h in
-  let n = words-left s i h in
-  pair-found s i Difference p q x h (grind arith)
+    let a = word-here s i h in
+    let n = words-left s i h in
+    pair-found s i Difference p q x h (grind arith)
 term-found s i (mul p q) x h =
-  let a = word-here s i h in
-  let n = words-left s i h in
-  pair-found s i Product p q x h (grind arith)
+    let a = word-here s i h in
+    let n = words-left s i h in
+    pair-found s i Product p q x h (grind arith)
 term-found s i (less p q) x h =
-  let a = word-here s i h in
-  let n = words-left s i h in
-  pair-found s i Less p q x h (grind arith)
+    let a = word-here s i h in
+    let n = words-left s i h in
+    pair-found s i Less p q x h (grind arith)

@@ -19,6 +19,7 @@ pub record ProcessAt (s second : List ℕ) (at : ℕ) (p : Process) : Type 0 whe
   pub behind : List ℕ
   pub rows : drop at s ≡ rowR p ++ behind
   pub seconds : Seconds second (at + 3 + length (p .talks)) (p .body)
+
 -- The beginning of a process found at a place is that of process p, with the words x behind the process.
 pub record HeadIs (s : List ℕ) (i : ℕ) (h : Head) (p : Process) (x : List ℕ) : Type 0 where
   pub count : h .count ≡ length (p .talks)
@@ -27,6 +28,7 @@ pub record HeadIs (s : List ℕ) (i : ℕ) (h : Head) (p : Process) (x : List �
   pub talks : drop (h .talks) s ≡ p .talks ++ (p .nums ∷ p .vars ∷ (rowA (p .body) ++ x))
   pub body : drop (h .body) s ≡ rowA (p .body) ++ x
   pub place : h .body ≡ i + 3 + length (p .talks)
+
 -- The map of a program: its points and processes by their places, the other sides by where their list begins.
 pub record Mapped (s : List ℕ) (g : Program) (m : Map) : Type 0 where
   pub point-count : m .«point_count» ≡ length (g .points)
@@ -40,11 +42,14 @@ pub record Mapped (s : List ℕ) (g : Program) (m : Map) : Type 0 where
 pub record Known (s : List ℕ) (m : Map) (g : Program) : Type 0 where
   pub reads : Reads s g
   pub mapped : Mapped s g m
+
 -- what looking up a point, the other side of a point, and a process comes to
 abbrev pub PointIs : Program → ℕ → Option PointKind → Type 0
 PointIs g i r = Cases r (nth (g .points) i ≡ none) (λ k. nth (g .points) i ≡ some (said k))
+
 abbrev pub OtherIs : Program → ℕ → Option ℕ → Type 0
 OtherIs g i r = Cases r (nth (g .other) i ≡ none) (λ j. nth (g .other) i ≡ some j)
+
 pub record ProcessFound (s second : List ℕ) (g : Program) (i : ℕ) (h : Head) : Type 0 where
   pub it : Process
   pub is : nth (g .procs) i ≡ some it
@@ -52,5 +57,6 @@ pub record ProcessFound (s second : List ℕ) (g : Program) (i : ℕ) (h : Head)
   pub behind : List ℕ
   pub head : HeadIs s place h it behind
   pub seconds : Seconds second (h .body) (it .body)
+
 abbrev pub ProcessIs : List ℕ → List ℕ → Program → ℕ → Option Head → Type 0
 ProcessIs s second g i r = Cases r (nth (g .procs) i ≡ none) (ProcessFound s second g i)

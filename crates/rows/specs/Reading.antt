@@ -19,9 +19,11 @@ pub record ExpressionAt (s : List ℕ) (i d j : ℕ) : Type 0 where
   pub ends : j ≡ i + length (rowE it)
   pub further : i < j
   pub within : j ≤ length s
+
 -- No expression so nested stands at place i, whatever follows.
 abbrev pub NoExpression : List ℕ → ℕ → ℕ → Type 0
 NoExpression s i d = (e : Expression) (x : List ℕ) → drop i s ≡ rowE e ++ x → deepE e ≤ d → ⊥
+
 abbrev pub ExpressionEnd : List ℕ → ℕ → ℕ → Option ℕ → Type 0
 ExpressionEnd s i d r = Cases r (NoExpression s i d) (ExpressionAt s i d)
 
@@ -33,9 +35,11 @@ pub record ExpressionsAt (s : List ℕ) (i d n j : ℕ) : Type 0 where
   pub deep : deepEs them ≤ d
   pub ends : j ≡ i + length (rowEs them)
   pub within : i ≤ length s → j ≤ length s
+
 -- No such expressions stand at place i, whatever follows.
 abbrev pub NoExpressions : List ℕ → ℕ → ℕ → ℕ → Type 0
 NoExpressions s i d n = (es : List Expression) (x : List ℕ) → length es ≡ n → drop i s ≡ rowEs es ++ x → deepEs es ≤ d → ⊥
+
 abbrev pub ExpressionsEnd : List ℕ → ℕ → ℕ → ℕ → Option ℕ → Type 0
 ExpressionsEnd s i d n r = Cases r (NoExpressions s i d n) (ExpressionsAt s i d n)
 
@@ -63,11 +67,14 @@ pub record ActionAt (s m : List ℕ) (i d r j : ℕ) : Type 0 where
   pub ends : j ≡ i + length (rowA it)
   pub further : i < j
   pub within : j ≤ length s
+
 -- No such action stands at place i, whatever follows.
 abbrev pub NoAction : List ℕ → ℕ → ℕ → ℕ → Type 0
 NoAction s i d r = (t : Action) (x : List ℕ) → drop i s ≡ rowA t ++ x → deep t ≤ d → new t ≤ r → ⊥
+
 abbrev pub ActionEnd : List ℕ → List ℕ → ℕ → ℕ → ℕ → Option ℕ → Type 0
 ActionEnd s m i d r e = Cases e (NoAction s i d r) (ActionAt s m i d r)
+
 -- two tables agree below place i
 abbrev pub Same-below : ℕ → List ℕ → List ℕ → Type 0
 Same-below i m m′ = (k : ℕ) → k < i → getD m k 0 ≡ getD m′ k 0
@@ -78,16 +85,19 @@ pub record Stood (s : List ℕ) (i d r : ℕ) (x : List ℕ) : Type 0 where
   pub rows : drop i s ≡ rowA it ++ x
   pub deeps : deep it ≤ d
   pub news : new it ≤ r
+
 pub record Written (s m : List ℕ) (i d r : ℕ) (x : List ℕ) (n : ℕ) : Type 0 where
   pub stood : Stood s i d r x
   pub seconds : Seconds m i (stood .it)
   pub long : length (rowA (stood .it)) ≡ n
+
 -- From place i one comes to place j: an action that stands at j is the rest of one that stands at i, and the other way round.
 pub record Leads (s : List ℕ) (i d r j d′ r′ : ℕ) : Type 0 where
   pub back : (m x : List ℕ) (n : ℕ) → Written s m j d′ r′ x n → Written s m i d r x ((j - i) + n)
   pub on : (x : List ℕ) → Stood s i d r x → Stood s j d′ r′ x
   pub further : i < j
   pub within : j ≤ length s
+
 -- At place i two ways part, the first of which begins at f.
 pub record TwoWays (s : List ℕ) (f d r : ℕ) (x : List ℕ) : Type 0 where
   pub one : Action
@@ -98,12 +108,14 @@ pub record TwoWays (s : List ℕ) (f d r : ℕ) (x : List ℕ) : Type 0 where
   pub deep-two : deep two ≤ d - 1
   pub new-one : new one ≤ r
   pub new-two : new two ≤ r
+
 pub record Parting (s : List ℕ) (i d r f : ℕ) : Type 0 where
   pub back : (m x : List ℕ) (w : TwoWays s f d r x) → Seconds m f (w .one) → Seconds m (f + length (rowA (w .one))) (w .two) → getD m i 0 ≡ f + length (rowA (w .one)) →
-    Written s m i d r x ((f - i) + (length (rowA (w .one)) + length (rowA (w .two))))
+      Written s m i d r x ((f - i) + (length (rowA (w .one)) + length (rowA (w .two))))
   pub on : (x : List ℕ) → Stood s i d r x → TwoWays s f d r x
   pub further : i < f
   pub within : f ≤ length s
+
 -- what an instruction leads to
 abbrev pub Passed : List ℕ → ℕ → ℕ → ℕ → Pass → Type 0
 Passed s i d r Fault = NoAction s i d r

@@ -19,9 +19,11 @@ pub record PointsAt (s table : List ℕ) (i n j : ℕ) : Type 0 where
   pub rows : drop i s ≡ rowPs them ++ drop j s
   pub places : (k : ℕ) (p : Point) → nth them k ≡ some p → (x : List ℕ) × (drop (getD table k 0) s ≡ rowP p ++ x)
   pub within : i ≤ length s → j ≤ length s
+
 -- No n points stand at place i, whatever follows.
 abbrev pub NoPoints : List ℕ → ℕ → ℕ → Type 0
 NoPoints s i n = (ps : List Point) (x : List ℕ) → length ps ≡ n → drop i s ≡ rowPs ps ++ x → ⊥
+
 abbrev pub PointsEnd : List ℕ → List ℕ → ℕ → ℕ → Option ℕ → Type 0
 PointsEnd s table i n r = Cases r (NoPoints s i n) (PointsAt s table i n)
 
@@ -34,9 +36,11 @@ pub record ProcessTo (s second : List ℕ) (i j : ℕ) : Type 0 where
   pub ends : j ≡ i + length (rowR it)
   pub further : i < j
   pub within : j ≤ length s
+
 -- No such process stands at place i, whatever follows.
 abbrev pub NoProcess : List ℕ → ℕ → Type 0
 NoProcess s i = (p : Process) (x : List ℕ) → drop i s ≡ rowR p ++ x → Fine p → ⊥
+
 abbrev pub ProcessEnd : List ℕ → List ℕ → ℕ → Option ℕ → Type 0
 ProcessEnd s second i r = Cases r (NoProcess s i) (ProcessTo s second i)
 
@@ -49,8 +53,10 @@ pub record ProcessesAt (s places second : List ℕ) (i n : ℕ) : Type 0 where
   pub rows : drop i s ≡ rowRs them
   pub fine : AllFine them
   pub at : (k : ℕ) (p : Process) → nth them k ≡ some p → ProcessAt s second (getD places k 0) p
+
 abbrev pub NoProcesses : List ℕ → ℕ → Type 0
 NoProcesses s i = (ps : List Process) → length ps ≤ 64 → drop i s ≡ rowRs ps → AllFine ps → ⊥
+
 abbrev pub ProcessesEnd : List ℕ → List ℕ → List ℕ → ℕ → Option ℕ → Type 0
 ProcessesEnd s places second i r = Cases r (NoProcesses s i) (ProcessesAt s places second i)
 

@@ -26,14 +26,31 @@ fn advance(p: &[u32], at: usize, depth: u32, room: u32) -> Pass
         None => Pass::Fault,
         Some(instruction) => match instruction {
             Instruction::Stop => Pass::End(at + 1),
-            Instruction::Give { conversation: _c, value } => match expression_end(p, value, depth) {
+            Instruction::Give {
+                conversation: _c,
+                value,
+            } => match expression_end(p, value, depth) {
                 None => Pass::Fault,
                 Some(next) => Pass::On(next, room),
             },
-            Instruction::Take { conversation: _c, variable: _x, next } => Pass::On(next, room),
-            Instruction::Choose { conversation: _c, way: _k, next } => Pass::On(next, room),
-            Instruction::Offer { conversation: _c, first } => Pass::Fork(first),
-            Instruction::Set { variable: _x, value } => match expression_end(p, value, depth) {
+            Instruction::Take {
+                conversation: _c,
+                variable: _x,
+                next,
+            } => Pass::On(next, room),
+            Instruction::Choose {
+                conversation: _c,
+                way: _k,
+                next,
+            } => Pass::On(next, room),
+            Instruction::Offer {
+                conversation: _c,
+                first,
+            } => Pass::Fork(first),
+            Instruction::Set {
+                variable: _x,
+                value,
+            } => match expression_end(p, value, depth) {
                 None => Pass::Fault,
                 Some(next) => Pass::On(next, room),
             },
@@ -54,7 +71,12 @@ fn advance(p: &[u32], at: usize, depth: u32, room: u32) -> Pass
                     Some(next) => Pass::On(next, room - 1),
                 }
             }
-            Instruction::Become { call } => match expressions_end(p, call.numbers, call.expressions, depth) {
+            Instruction::Become { call } => match expressions_end(
+                p,
+                call.numbers,
+                call.expressions,
+                depth,
+            ) {
                 None => Pass::Fault,
                 Some(end) => Pass::End(end),
             },

@@ -9,15 +9,40 @@ ghost use Rattle.rows.specs.Decode.{instructionAt, callAt, termAt, pointAt, he
 #[derive(Clone, Copy)]
 pub enum Instruction {
     Stop,
-    Give { conversation: u32, value: usize },
-    Take { conversation: u32, variable: u32, next: usize },
-    Choose { conversation: u32, way: u32, next: usize },
-    Offer { conversation: u32, first: usize },
-    Set { variable: u32, value: usize },
-    If { test: usize },
-    Show { value: usize },
-    Start { call: Call },
-    Become { call: Call },
+    Give {
+        conversation: u32,
+        value: usize,
+    },
+    Take {
+        conversation: u32,
+        variable: u32,
+        next: usize,
+    },
+    Choose {
+        conversation: u32,
+        way: u32,
+        next: usize,
+    },
+    Offer {
+        conversation: u32,
+        first: usize,
+    },
+    Set {
+        variable: u32,
+        value: usize,
+    },
+    If {
+        test: usize,
+    },
+    Show {
+        value: usize,
+    },
+    Start {
+        call: Call,
+    },
+    Become {
+        call: Call,
+    },
 }
 
 // A process that is started or become: which one, where the conversations handed to it are listed and how many, and
@@ -79,11 +104,28 @@ pub fn instruction_at(p: &[u32], at: usize) -> Option<Instruction>
     let left = p.len() - at;
     match p[at] {
         0 => Some(Instruction::Stop),
-        1 if left > 1 => Some(Instruction::Give { conversation: p[at + 1], value: at + 2 }),
-        2 if left > 2 => Some(Instruction::Take { conversation: p[at + 1], variable: p[at + 2], next: at + 3 }),
-        3 if left > 2 => Some(Instruction::Choose { conversation: p[at + 1], way: p[at + 2], next: at + 3 }),
-        4 if left > 1 => Some(Instruction::Offer { conversation: p[at + 1], first: at + 2 }),
-        5 if left > 1 => Some(Instruction::Set { variable: p[at + 1], value: at + 2 }),
+        1 if left > 1 => Some(Instruction::Give {
+            conversation: p[at + 1],
+            value: at + 2,
+        }),
+        2 if left > 2 => Some(Instruction::Take {
+            conversation: p[at + 1],
+            variable: p[at + 2],
+            next: at + 3,
+        }),
+        3 if left > 2 => Some(Instruction::Choose {
+            conversation: p[at + 1],
+            way: p[at + 2],
+            next: at + 3,
+        }),
+        4 if left > 1 => Some(Instruction::Offer {
+            conversation: p[at + 1],
+            first: at + 2,
+        }),
+        5 if left > 1 => Some(Instruction::Set {
+            variable: p[at + 1],
+            value: at + 2,
+        }),
         6 => Some(Instruction::If { test: at + 1 }),
         7 => Some(Instruction::Show { value: at + 1 }),
         8 => match call_at(p, at) {
@@ -114,7 +156,13 @@ fn call_at(p: &[u32], at: usize) -> Option<Call>
     if left - 4 < count {
         return None;
     }
-    Some(Call { process: p[at + 1], conversations: at + 3, count, numbers: at + 4 + count, expressions: p[at + 3 + count] })
+    Some(Call {
+        process: p[at + 1],
+        conversations: at + 3,
+        count,
+        numbers: at + 4 + count,
+        expressions: p[at + 3 + count],
+    })
 }
 
 // The expression at a place, if its first words are there.
@@ -129,10 +177,22 @@ pub fn term_at(p: &[u32], at: usize) -> Option<Term>
     match p[at] {
         0 if left > 1 => Some(Term::Number(p[at + 1])),
         1 if left > 1 => Some(Term::Variable(p[at + 1])),
-        2 => Some(Term::Pair { operator: Operator::Sum, first: at + 1 }),
-        3 => Some(Term::Pair { operator: Operator::Difference, first: at + 1 }),
-        4 => Some(Term::Pair { operator: Operator::Product, first: at + 1 }),
-        5 => Some(Term::Pair { operator: Operator::Less, first: at + 1 }),
+        2 => Some(Term::Pair {
+            operator: Operator::Sum,
+            first: at + 1,
+        }),
+        3 => Some(Term::Pair {
+            operator: Operator::Difference,
+            first: at + 1,
+        }),
+        4 => Some(Term::Pair {
+            operator: Operator::Product,
+            first: at + 1,
+        }),
+        5 => Some(Term::Pair {
+            operator: Operator::Less,
+            first: at + 1,
+        }),
         _ => None,
     }
 }
@@ -172,5 +232,11 @@ pub fn head_at(p: &[u32], at: usize) -> Option<Head>
     if left - 3 < count {
         return None;
     }
-    Some(Head { talks: at + 1, count, numbers: p[at + 1 + count], variables: p[at + 2 + count], body: at + 3 + count })
+    Some(Head {
+        talks: at + 1,
+        count,
+        numbers: p[at + 1 + count],
+        variables: p[at + 2 + count],
+        body: at + 3 + count,
+    })
 }

@@ -15,7 +15,10 @@ pub fn expression_end(p: &[u32], at: usize, depth: u32) -> Option<usize>
         Some(term) => match term {
             Term::Number(_n) => Some(at + 2),
             Term::Variable(_x) => Some(at + 2),
-            Term::Pair { operator: _o, first } => match expression_end(p, first, depth - 1) {
+            Term::Pair {
+                operator: _o,
+                first,
+            } => match expression_end(p, first, depth - 1) {
                 None => None,
                 Some(second) => expression_end(p, second, depth - 1),
             },

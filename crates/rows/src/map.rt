@@ -15,6 +15,13 @@ pub struct Map {
 impl Map {
     // A map of nothing.
     pub fn empty() -> Map {
-        Map { point_count: 0, points: [0; 256], sides: 0, process_count: 0, processes: [0; 64], second: [0; 16384] }
+        Map {
+            point_count: 0,
+            points: [0; 256],
+            sides: 0,
+            process_count: 0,
+            processes: [0; 64],
+            second: [0; 16384],
+        }
     }
 }

@@ -8,7 +8,7 @@ each-holds c = handing-none (c .args .p .now) (stand (c .args .conversations .no
 
 pub each-again : need.each-again
 each-again c =
-  handing-more (c .args .p .now) (stand (c .args .conversations .now)) (c .args .listed) (c .args .wanted) (c .args .count) (c .each .k) (stand (c .each .conversations)) (c .each .inv) (c .each-test .taken) (c .in-Some .point) (stand (c .move-to .last .self)) (c .in-Some .ensures tt) (omega arith) (c .move-to .ensures)
+    handing-more (c .args .p .now) (stand (c .args .conversations .now)) (c .args .listed) (c .args .wanted) (c .args .count) (c .each .k) (stand (c .each .conversations)) (c .each .inv) (c .each-test .taken) (c .in-Some .point) (stand (c .move-to .last .self)) (c .in-Some .ensures tt) (omega arith) (c .move-to .ensures)
 
 pub returns-in-None : need.returns-in-None
 returns-in-None c = handing-absent (c .args .p .now) (stand (c .args .conversations .now)) (c .args .listed) (c .args .wanted) (c .args .count) (c .each .k) (stand (c .each .conversations)) (c .each .inv) (c .each-test .taken) (c .in-None .ensures tt)

@@ -20,14 +20,15 @@ returns-then-deep-eq0 t c = record { ends = walk-shallow (c .args .p .now) (c .a
 pub returns-in-None : need.returns-in-None
 returns-in-None t c = record {
   ends = walk-first (c .args .p .now) (c .args .second .now) (c .walk .second) (c .args .at) (c .args .depth) (c .args .room) (c .walk .here) (c .walk .deep) (c .walk .left) (c .walk .inv) (c .in-Fork .first) (c .in-Fork .ensures tt) (c .in-None .ensures tt .ends);
-  before = walk-before (c .args .p .now) (c .args .second .now) (c .walk .second) (c .args .at) (c .args .depth) (c .args .room) (c .walk .here) (c .walk .deep) (c .walk .left) (c .walk .inv) (c .in-Fork .first) (c .in-Fork .ensures tt) (c .action-end .last .second) (c .in-None .ensures tt .before) }
+  before = walk-before (c .args .p .now) (c .args .second .now) (c .walk .second) (c .args .at) (c .args .depth) (c .args .room) (c .walk .here) (c .walk .deep) (c .walk .left) (c .walk .inv) (c .in-Fork .first) (c .in-Fork .ensures tt) (c .action-end .last .second) (c .in-None .ensures tt .before);
+}
 
 pub walk-again : need.walk-again
 walk-again t c =
-  let e = c .in-Some .ensures tt .ends in
-  let b = c .in-Fork .ensures tt in
-  let f = b .further in
-  let g = e .further in
-  let w = e .within in
-  walk-fork (c .args .p .now) (c .args .second .now) (c .walk .second) (c .args .at) (c .args .depth) (c .args .room) (c .walk .here) (c .walk .deep) (c .walk .left) (c .walk .inv) (c .in-Fork .first) (c .in-Fork .ensures tt)
-  (c .action-end .last .second) (c .in-Some .next) (c .in-Some .ensures tt .before) (c .in-Some .ensures tt .ends) (omega arith) (omega arith)
+    let e = c .in-Some .ensures tt .ends in
+    let b = c .in-Fork .ensures tt in
+    let f = b .further in
+    let g = e .further in
+    let w = e .within in
+    walk-fork (c .args .p .now) (c .args .second .now) (c .walk .second) (c .args .at) (c .args .depth) (c .args .room) (c .walk .here) (c .walk .deep) (c .walk .left) (c .walk .inv) (c .in-Fork .first) (c .in-Fork .ensures tt)
+    (c .action-end .last .second) (c .in-Some .next) (c .in-Some .ensures tt .before) (c .in-Some .ensures tt .ends) (omega arith) (omega arith)

@@ -10,19 +10,19 @@ returns-in-None t c = no-term (c .args .p .now) (c .args .at) (c .args .depth) (
 
 pub returns-in-Number : need.returns-in-Number
 returns-in-Number t c =
-  number-at (c .args .p .now) (c .args .at) (c .args .depth) (c .in-Number .-n) (c .in-Some .term) (omega arith) (c .in-Some .ensures tt .words) (c .in-Number .is)
+    number-at (c .args .p .now) (c .args .at) (c .args .depth) (c .in-Number .-n) (c .in-Some .term) (omega arith) (c .in-Some .ensures tt .words) (c .in-Number .is)
 
 pub returns-in-Variable : need.returns-in-Variable
 returns-in-Variable t c =
-  variable-at (c .args .p .now) (c .args .at) (c .args .depth) (c .in-Variable .-x) (c .in-Some .term) (omega arith) (c .in-Some .ensures tt .words) (c .in-Variable .is)
+    variable-at (c .args .p .now) (c .args .at) (c .args .depth) (c .in-Variable .-x) (c .in-Some .term) (omega arith) (c .in-Some .ensures tt .words) (c .in-Variable .is)
 
 pub returns-in-None-expression-end : need.returns-in-None-expression-end
 returns-in-None-expression-end t c =
-  pair-no-first (c .args .p .now) (c .args .at) (c .args .depth) (c .in-Pair .first) (c .in-Pair .-o) (c .in-Some .term) (omega arith)
-  (c .in-Some .ensures tt .is) (c .in-Some .ensures tt .words) (c .in-Pair .is) (c .in-None-expression-end .ensures tt)
+    pair-no-first (c .args .p .now) (c .args .at) (c .args .depth) (c .in-Pair .first) (c .in-Pair .-o) (c .in-Some .term) (omega arith)
+    (c .in-Some .ensures tt .is) (c .in-Some .ensures tt .words) (c .in-Pair .is) (c .in-None-expression-end .ensures tt)
 
 pub returns-in-Some-expression-end : need.returns-in-Some-expression-end
 returns-in-Some-expression-end t c =
-  pair-end (c .args .p .now) (c .args .at) (c .args .depth) (c .in-Pair .first) (c .in-Pair .-o) (c .in-Some .term) (omega arith)
-  (c .in-Some .ensures tt .is) (c .in-Some .ensures tt .words) (c .in-Pair .is)
-  (c .expression-end-in-Some-expression-end .result) (c .in-Some-expression-end .ensures tt) (c .expression-end-in-Some-expression-end .ensures)
+    pair-end (c .args .p .now) (c .args .at) (c .args .depth) (c .in-Pair .first) (c .in-Pair .-o) (c .in-Some .term) (omega arith)
+    (c .in-Some .ensures tt .is) (c .in-Some .ensures tt .words) (c .in-Pair .is)
+    (c .expression-end-in-Some-expression-end .result) (c .in-Some-expression-end .ensures tt) (c .expression-end-in-Some-expression-end .ensures)

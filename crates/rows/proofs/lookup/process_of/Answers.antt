@@ -12,4 +12,5 @@ returns-then-i-ge64 c = record { within = tt; is = λ g known. absurd (few-proce
 pub returns : need.returns
 returns c = record {
   within = head-within (c .args .p .now) _ (c .head-at .result) (c .head-at .ensures .words);
-  is = λ g known. process-is (c .args .p .now) (c .args .map .now) g known (c .args .process) (c .head-at .result) (omega arith) (c .head-at .ensures .is) }
+  is = λ g known. process-is (c .args .p .now) (c .args .map .now) g known (c .args .process) (c .head-at .result) (omega arith) (c .head-at .ensures .is);
+}

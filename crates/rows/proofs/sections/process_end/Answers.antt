@@ -18,5 +18,6 @@ returns-then-head c = record { ends = process-loaded (c .args .p .now) (c .args 
 pub returns-else-head : need.returns-else-head
 returns-else-head c = record {
   ends = process-end (c .args .p .now) (c .action-end .last .second) (c .args .at) (c .in-Some .head) (c .action-end .result) (c .in-Some .ensures tt .is) (c .in-Some .ensures tt .words)
-    (omega arith) (omega arith) (omega arith) (c .action-end .ensures .ends);
-  before = body-behind (c .args .p .now) (c .args .second .now) (c .action-end .last .second) (c .args .at) (c .in-Some .head) (c .in-Some .ensures tt .words) (c .action-end .ensures .before) }
+      (omega arith) (omega arith) (omega arith) (c .action-end .ensures .ends);
+  before = body-behind (c .args .p .now) (c .args .second .now) (c .action-end .last .second) (c .args .at) (c .in-Some .head) (c .in-Some .ensures tt .words) (c .action-end .ensures .before);
+}

@@ -7,9 +7,9 @@ each-holds c = processed-none (c .args .p .now) (c .args .places .now) (c .args 
 
 pub each-again : need.each-again
 each-again c =
-  let f = c .each .inv .few in
-  processed-more (c .args .p .now) (c .each .places) (c .each .second) (c .args .at) (c .each .count) (c .each .here) (c .each .inv)
-  (c .process-end .last .second) (c .in-Some .next) (omega arith) (omega arith) (c .in-Some .ensures tt .before) (c .in-Some .ensures tt .ends)
+    let f = c .each .inv .few in
+    processed-more (c .args .p .now) (c .each .places) (c .each .second) (c .args .at) (c .each .count) (c .each .here) (c .each .inv)
+    (c .process-end .last .second) (c .in-Some .next) (omega arith) (omega arith) (c .in-Some .ensures tt .before) (c .in-Some .ensures tt .ends)
 
 pub returns-then-count-eq64 : need.returns-then-count-eq64
 returns-then-count-eq64 c = processed-full (c .args .p .now) (c .each .places) (c .each .second) (c .args .at) (c .each .count) (c .each .here) (c .each .inv) (omega arith) (omega arith)

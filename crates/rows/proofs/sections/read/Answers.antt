@@ -12,6 +12,6 @@ returns-in-None-processes-end c = no-processes (c .args .program .now) (c .point
 
 pub returns-in-Some-processes-end : need.returns-in-Some-processes-end
 returns-in-Some-processes-end c =
-  program-read (c .args .program .now) (c .points-end .last .places) (getD (c .args .program .now) 0 0) (c .in-Some .sides) refl (c .in-Some .ensures tt)
-  (c .processes-end .last .places) (c .processes-end .last .second) (c .in-Some-processes-end .processes) (c .if-words-sides .left) (omega arith) (omega arith) (omega arith) (c .in-Some-processes-end .ensures tt)
-  _ refl refl refl refl refl refl
+    program-read (c .args .program .now) (c .points-end .last .places) (getD (c .args .program .now) 0 0) (c .in-Some .sides) refl (c .in-Some .ensures tt)
+    (c .processes-end .last .places) (c .processes-end .last .second) (c .in-Some-processes-end .processes) (c .if-words-sides .left) (omega arith) (omega arith) (omega arith) (c .in-Some-processes-end .ensures tt)
+    _ refl refl refl refl refl refl

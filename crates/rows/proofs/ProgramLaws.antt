@@ -1,6 +1,6 @@
 -- Processes one after the other up to the end of the rows, and the whole program, exactly.
 use mathlib.Core.Path.{_≡_, refl, sym, ap, _∙_, subst}
-use mathlib.Core.List.{List, [], _∷_, _++_, append-assoc}
+use mathlib.Core.List.{List, [], _∷_, _++_, append-assoc, append-nil}
 use mathlib.Core.Logic.{_≢_, _⊎_, inl, inr}
 use mathlib.Core.Option.{some}
 use Prim.Native.Nat.{ℕ, zero, suc, _+_, _-_, _<_, _≤_}
@@ -18,7 +18,7 @@ use Rattle.rows.proofs.Series.{rows-snoc, Rest, rows-front}
 use Rattle.rows.proofs.Walks.{seconds-same}
 use Rattle.model.specs.Program.{nth, Process, Program}
 use Rattle.model.specs.Rows.{rowPs, rowA, rowR, rowRs, Fine, AllFine, Reads}
-use Rattle.model.proofs.Lists.{nth-below, nth-snoc-split, append-nil}
+use Rattle.model.proofs.Lists.{nth-below, nth-snoc-split}
 use Rattle.model.proofs.Writing.{rowR-prefix, rowPs-prefix}
 
 -- a process stays where it is in tables that agree on its words

@@ -4,3 +4,4 @@ pub mod VariableLaws
 pub mod HandingLaws
 pub mod ActionLaws
 pub mod CallLaws
+pub mod WalkLaws

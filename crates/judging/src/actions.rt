@@ -4,11 +4,12 @@ ghost use mathlib.Core.Option.{some};
 ghost use mathlib.Core.Path.{_≡_};
 ghost use Prim.Native.Nat.{ℕ, _+_, _<_, _≤_};
 ghost use lib.ListN.{length, drop};
-ghost use Rattle.judging.specs.Following.{CourseFrom, GiveSays, TakeSays, ChooseSays, OfferSays};
+ghost use Rattle.judging.specs.Following.{CourseFrom, StopSays, GiveSays, TakeSays, ChooseSays, OfferSays, SetSays, IfSays, ShowSays};
 ghost use Rattle.judging.specs.Standing.{stand};
 ghost use Rattle.model.specs.Program.{put};
 use crate::conversations::Conversations;
 use crate::course::Course;
+use crate::handing::all_over;
 use crate::moves::after_choosing;
 use crate::moves::after_giving;
 use crate::moves::after_offering;
@@ -114,5 +115,51 @@ pub fn look_at_offer(
             moved(conversations, conversation, fork.first),
             moved(conversations, conversation, fork.second),
         ),
+    }
+}
+
+pub fn look_at_stop(p: &[u32], map: &Map, conversations: &Conversations, end: usize, depth: u32, variables: u32, root: bool) -> Course
+    ensures behind { λ r. ⌜ CourseFrom (now (p .entry)) end r ⌝ }
+    ensures says { λ r. ⌜ StopSays (now (p .entry)) (now (map .entry)) end depth variables root (stand (now (conversations .entry))) r ⌝ }
+{
+    if all_over(p, map, conversations) {
+        return Course::Kept(end);
+    }
+    Course::Careless
+}
+
+pub fn look_at_set(p: &[u32], map: &Map, conversations: &Conversations, variable: u32, value: usize, depth: u32, variables: u32, root: bool) -> Course
+    ensures behind { λ r. ⌜ CourseFrom (now (p .entry)) value r ⌝ }
+    ensures says { λ r. ⌜ SetSays (now (p .entry)) (now (map .entry)) variable value depth variables root (stand (now (conversations .entry))) r ⌝ }
+{
+    if variable >= variables {
+        return Course::Careless;
+    }
+    match variables_there(p, value, depth, variables) {
+        None => Course::Careless,
+        Some(next) => Course::On(next, *conversations),
+    }
+}
+
+pub fn look_at_if(p: &[u32], map: &Map, conversations: &Conversations, test: usize, depth: u32, variables: u32, root: bool) -> Course
+    ensures behind { λ r. ⌜ CourseFrom (now (p .entry)) test r ⌝ }
+    ensures says { λ r. ⌜ IfSays (now (p .entry)) (now (map .entry)) test depth variables root (stand (now (conversations .entry))) r ⌝ }
+{
+    match variables_there(p, test, depth, variables) {
+        None => Course::Careless,
+        Some(first) => Course::Parted(first, *conversations, *conversations),
+    }
+}
+
+pub fn look_at_show(p: &[u32], map: &Map, conversations: &Conversations, value: usize, depth: u32, variables: u32, root: bool) -> Course
+    ensures behind { λ r. ⌜ CourseFrom (now (p .entry)) value r ⌝ }
+    ensures says { λ r. ⌜ ShowSays (now (p .entry)) (now (map .entry)) value depth variables root (stand (now (conversations .entry))) r ⌝ }
+{
+    if !root {
+        return Course::Careless;
+    }
+    match variables_there(p, value, depth, variables) {
+        None => Course::Careless,
+        Some(next) => Course::On(next, *conversations),
     }
 }

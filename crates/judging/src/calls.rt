@@ -3,13 +3,15 @@ ghost use mathlib.Core.List.{List, _++_};
 ghost use mathlib.Core.Path.{_≡_};
 ghost use Prim.Native.Nat.{ℕ, _+_, _<_, _≤_};
 ghost use lib.ListN.{length, drop};
-ghost use Rattle.judging.specs.Following.{StartSays, becomes-well};
+ghost use Rattle.judging.specs.Following.{StartSays, becomes-well, CourseFrom, StartLooks, BecomeLooks};
 ghost use Rattle.judging.specs.Standing.{stand};
 ghost use Rattle.model.specs.Program.{Program};
 ghost use Rattle.rows.specs.Mapped.{Known};
 use crate::conversations::Conversations;
+use crate::course::Course;
 use crate::handing::all_over;
 use crate::handing::hand_on;
+use crate::variables::all_variables_there;
 use rows::decode::Call;
 use rows::lookup::other_of;
 use rows::lookup::process_of;
@@ -86,6 +88,36 @@ pub fn becomes_well(
                 return false;
             }
             all_over(p, map, &left)
+        }
+    }
+}
+
+pub fn look_at_start(p: &[u32], map: &Map, conversations: &Conversations, call: &Call, depth: u32, variables: u32, root: bool) -> Course
+    requires { ⌜ now call .conversations + now call .count ≤ length (now p) ⌝ }
+    ensures behind { λ r. ⌜ CourseFrom (now (p .entry)) (now (call .entry) .numbers) r ⌝ }
+    ensures says { λ r. ⌜ StartLooks (now (p .entry)) (now (map .entry)) (now (call .entry)) depth variables root (stand (now (conversations .entry))) r ⌝ }
+{
+    match all_variables_there(p, call.numbers, call.expressions, depth, variables) {
+        None => Course::Careless,
+        Some(next) => match after_start(p, map, conversations, call) {
+            None => Course::Careless,
+            Some(left) => Course::On(next, left),
+        },
+    }
+}
+
+pub fn look_at_become(p: &[u32], map: &Map, conversations: &Conversations, call: &Call, depth: u32, variables: u32, root: bool) -> Course
+    requires { ⌜ now call .conversations + now call .count ≤ length (now p) ⌝ }
+    ensures behind { λ r. ⌜ CourseFrom (now (p .entry)) (now (call .entry) .numbers) r ⌝ }
+    ensures says { λ r. ⌜ BecomeLooks (now (p .entry)) (now (map .entry)) (now (call .entry)) depth variables root (stand (now (conversations .entry))) r ⌝ }
+{
+    match all_variables_there(p, call.numbers, call.expressions, depth, variables) {
+        None => Course::Careless,
+        Some(end) => {
+            if becomes_well(p, map, conversations, call, root) {
+                return Course::Kept(end);
+            }
+            Course::Careless
         }
     }
 }

@@ -7,3 +7,4 @@ pub mod handing;
 pub mod moves;
 pub mod standing;
 pub mod variables;
+pub mod walk;

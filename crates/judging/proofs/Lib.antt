@@ -5,3 +5,4 @@ pub mod HandingLaws
 pub mod ActionLaws
 pub mod CallLaws
 pub mod WalkLaws
+pub mod ProgramTests

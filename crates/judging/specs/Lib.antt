@@ -2,3 +2,4 @@
 pub mod Standing
 pub mod Judging
 pub mod Following
+pub mod Program

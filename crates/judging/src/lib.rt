@@ -8,3 +8,5 @@ pub mod moves;
 pub mod standing;
 pub mod variables;
 pub mod walk;
+pub mod points;
+pub mod program;

@@ -34,7 +34,7 @@ fn kind_of(
 }
 
 // Where a point that gives goes on, and likewise for the others; none where the point says something else.
-fn given(kind: PointKind) -> Option<u32>
+pub fn given(kind: PointKind) -> Option<u32>
     ensures { λ r. ⌜ held r ≡ after-give (said kind) ⌝ }
 {
     match kind {
@@ -46,7 +46,7 @@ fn given(kind: PointKind) -> Option<u32>
     }
 }
 
-fn taken(kind: PointKind) -> Option<u32>
+pub fn taken(kind: PointKind) -> Option<u32>
     ensures { λ r. ⌜ held r ≡ after-take (said kind) ⌝ }
 {
     match kind {
@@ -58,7 +58,7 @@ fn taken(kind: PointKind) -> Option<u32>
     }
 }
 
-fn chosen(kind: PointKind) -> Option<Fork>
+pub fn chosen(kind: PointKind) -> Option<Fork>
     ensures { λ r. ⌜ waysOf r ≡ after-choose (said kind) ⌝ }
 {
     match kind {
@@ -70,7 +70,7 @@ fn chosen(kind: PointKind) -> Option<Fork>
     }
 }
 
-fn offered(kind: PointKind) -> Option<Fork>
+pub fn offered(kind: PointKind) -> Option<Fork>
     ensures { λ r. ⌜ waysOf r ≡ after-offer (said kind) ⌝ }
 {
     match kind {

@@ -1,0 +1,2 @@
+-- The proofs of what the calls promise.
+pub mod Judges

@@ -41,55 +41,64 @@ module _ (s : List ℕ) (m : Map) (i d n : ℕ) (r : Bool) (a : At) (k : Instruc
     where
       go : (t : Action) → Standing s i x Stop t → Outcome s g n r d x (keeps g n r t a) o
       go t (at-stop e) = says g x known e
+
   pub follow-give : (c v : ℕ) → k ≡ Give c v → GiveSays s m c v d n r a o → FollowSays s m i d n r a o
   follow-give c v kind says g t x known h p q = go t (there s i k (Give c v) t x is kind h) p q
     where
       go : (t : Action) → Standing s i x (Give c v) t → deep t ≤ d → length a + new t ≤ 16 → Outcome s g n r d x (keeps g n r t a) o
       go t (at-give {e} {t = u} w) p q = says g e u x known w p q
+
   pub follow-take : (c y v : ℕ) → k ≡ Take c y v → TakeSays s m c y v d n r a o → FollowSays s m i d n r a o
   follow-take c y v kind says g t x known h p q = go t (there s i k (Take c y v) t x is kind h) p q
     where
       go : (t : Action) → Standing s i x (Take c y v) t → deep t ≤ d → length a + new t ≤ 16 → Outcome s g n r d x (keeps g n r t a) o
       go t (at-take {t = u} w) p q = says g u x known w p q
+
   pub follow-choose : (c y v : ℕ) → k ≡ Choose c y v → ChooseSays s m c y v d n r a o → FollowSays s m i d n r a o
   follow-choose c y v kind says g t x known h p q = go t (there s i k (Choose c y v) t x is kind h) p q
     where
       go : (t : Action) → Standing s i x (Choose c y v) t → deep t ≤ d → length a + new t ≤ 16 → Outcome s g n r d x (keeps g n r t a) o
       go t (at-choose {t = u} w) p q = says g u x known w p q
+
   pub follow-offer : (c v : ℕ) → k ≡ Offer c v → OfferSays s m c v d n r a o → FollowSays s m i d n r a o
   follow-offer c v kind says g t x known h p q = go t (there s i k (Offer c v) t x is kind h) p q
     where
       go : (t : Action) → Standing s i x (Offer c v) t → deep t ≤ d → length a + new t ≤ 16 → Outcome s g n r d x (keeps g n r t a) o
       go t (at-offer {t = u} {u = w} e) p q = says g u w x known e p q
+
   pub follow-set : (y v : ℕ) → k ≡ Set y v → SetSays s m y v d n r a o → FollowSays s m i d n r a o
   follow-set y v kind says g t x known h p q = go t (there s i k (Set y v) t x is kind h) p q
     where
       go : (t : Action) → Standing s i x (Set y v) t → deep t ≤ d → length a + new t ≤ 16 → Outcome s g n r d x (keeps g n r t a) o
       go t (at-set {e} {t = u} w) p q = says g e u x known w p q
+
   pub follow-if : (v : ℕ) → k ≡ If v → IfSays s m v d n r a o → FollowSays s m i d n r a o
   follow-if v kind says g t x known h p q = go t (there s i k (If v) t x is kind h) p q
     where
       go : (t : Action) → Standing s i x (If v) t → deep t ≤ d → length a + new t ≤ 16 → Outcome s g n r d x (keeps g n r t a) o
       go t (at-if {e} {t = u} {u = y} w) p q = says g e u y x known w p q
+
   pub follow-show : (v : ℕ) → k ≡ Show v → ShowSays s m v d n r a o → FollowSays s m i d n r a o
   follow-show v kind says g t x known h p q = go t (there s i k (Show v) t x is kind h) p q
     where
       go : (t : Action) → Standing s i x (Show v) t → deep t ≤ d → length a + new t ≤ 16 → Outcome s g n r d x (keeps g n r t a) o
       go t (at-show {e} {t = u} w) p q = says g e u x known w p q
+
   pub follow-start : (f : Call) → k ≡ Start f → StartLooks s m f d n r a o → FollowSays s m i d n r a o
   follow-start f kind says g t x known h p q = go t (there s i k (Start f) t x is kind h) p q
     where
       go : (t : Action) → Standing s i x (Start f) t → deep t ≤ d → length a + new t ≤ 16 → Outcome s g n r d x (keeps g n r t a) o
       go t (at-start {f = f′} {cs} {es} {t = u} w) p q =
-        subst (λ (z : ℕ). Outcome s g n r d x (keeps g n r (start z cs es u) a) o) (w .process)
-        (says g cs es u x (length es ∷ (rowEs es ++ (rowA u ++ x))) known (sym (w .count)) (w .listed) (sym (w .expressions)) (w .numbers) p q)
+          subst (λ (z : ℕ). Outcome s g n r d x (keeps g n r (start z cs es u) a) o) (w .process)
+          (says g cs es u x (length es ∷ (rowEs es ++ (rowA u ++ x))) known (sym (w .count)) (w .listed) (sym (w .expressions)) (w .numbers) p q)
+
   pub follow-become : (f : Call) → k ≡ Become f → BecomeLooks s m f d n r a o → FollowSays s m i d n r a o
   follow-become f kind says g t x known h p q = go t (there s i k (Become f) t x is kind h) p
     where
       go : (t : Action) → Standing s i x (Become f) t → deep t ≤ d → Outcome s g n r d x (keeps g n r t a) o
       go t (at-become {f = f′} {cs} {es} w) p =
-        subst (λ (z : ℕ). Outcome s g n r d x (keeps g n r (become z cs es) a) o) (w .process)
-        (says g cs es x (length es ∷ (rowEs es ++ x)) known (sym (w .count)) (w .listed) (sym (w .expressions)) (w .numbers) p)
+          subst (λ (z : ℕ). Outcome s g n r d x (keeps g n r (become z cs es) a) o) (w .process)
+          (says g cs es x (length es ∷ (rowEs es ++ x)) known (sym (w .count)) (w .listed) (sym (w .expressions)) (w .numbers) p)
 
 -- the place where the operands of an instruction stand
 abbrev pub place : ℕ → Instruction → ℕ
@@ -103,6 +112,7 @@ place i (If v) = v
 place i (Show v) = v
 place i (Start f) = f .numbers
 place i (Become f) = f .numbers
+
 place-behind : (s : List ℕ) (i : ℕ) (k : Instruction) → Words s i k → (i < place i k) × (place i k ≤ length s)
 place-behind s i Stop w = omega arith
 place-behind s i (Give c v) w = omega arith
@@ -114,10 +124,12 @@ place-behind s i (If v) w = omega arith
 place-behind s i (Show v) w = omega arith
 place-behind s i (Start f) w = omega arith
 place-behind s i (Become f) w = omega arith
+
 pub look-behind : (s : List ℕ) (i : ℕ) (k l : Instruction) (o : Course) → Words s i k → k ≡ l → CourseFrom s (place i l) o → CourseBehind s i o
 look-behind s i k l o w kind h =
-  let b = place-behind s i l (subst (Words s i) kind w) in
-  course-behind s i (place i l) o h (b .0) (b .1)
+    let b = place-behind s i l (subst (Words s i) kind w) in
+    course-behind s i (place i l) o h (b .0) (b .1)
+
 pub call-listed : (s : List ℕ) (i : ℕ) (k : Instruction) (f : Call) → Words s i k → (k ≡ Start f → f .conversations + f .count ≤ length s) × (k ≡ Become f → f .conversations + f .count ≤ length s)
 call-listed s i k f w = ((λ kind. let v = subst (Words s i) kind w in let u = v .1 in omega arith), (λ kind. let v = subst (Words s i) kind w in let u = v .1 in omega arith))
 
@@ -126,44 +138,54 @@ pub record Walked (s : List ℕ) (m : Map) (n : ℕ) (r : Bool) (i d : ℕ) (a :
   pub on : (g : Program) (t : Action) (x : List ℕ) → Known s m g → drop i s ≡ rowA t ++ x → deep t ≤ d → length a + new t ≤ 16 → Decides s g n r j d′ c x (keeps g n r t a)
   pub order : i ≤ j
   pub shallow : d′ ≤ d
+
 pub walked-none : (s : List ℕ) (m : Map) (n : ℕ) (r : Bool) (i d : ℕ) (c : Conversations) → Walked s m n r i d (stand c) i d c
 walked-none s m n r i d c = record { on = λ g t x known h p q. record { it = t; rows = h; deeps = p; room = q; same = refl }; order = omega arith; shallow = omega arith }
 
 module _ (s : List ℕ) (m : Map) (n : ℕ) (r : Bool) (i d : ℕ) (a : At) (j d′ : ℕ) (c : Conversations) (w : Walked s m n r i d a j d′ c) where
   pub walked-careless : FollowSays s m j d′ n r (stand c) Careless → WalkSays s m i d n r a None
   walked-careless f g t x known h p q =
-    let u = w .on g t x known h p q in
-    u .same ∙ f g (u .it) x known (u .rows) (u .deeps) (u .room)
+      let u = w .on g t x known h p q in
+      u .same ∙ f g (u .it) x known (u .rows) (u .deeps) (u .room)
+
   pub walked-kept : (end : ℕ) → FollowSays s m j d′ n r (stand c) (Kept end) → WalkSays s m i d n r a (Some end)
   walked-kept end f g t x known h p q =
-    let u = w .on g t x known h p q in
-    let v = f g (u .it) x known (u .rows) (u .deeps) (u .room) in
-    (u .same ∙ v .0, v .1)
+      let u = w .on g t x known h p q in
+      let v = f g (u .it) x known (u .rows) (u .deeps) (u .room) in
+      (u .same ∙ v .0, v .1)
+
   pub walked-on : (l : ℕ) (c′ : Conversations) → FollowSays s m j d′ n r (stand c) (On l c′) → j < l → Walked s m n r i d a l d′ c′
   walked-on l c′ f lt = record {
     on = λ g t x known h p q.
-      let u = w .on g t x known h p q in
-      let v = f g (u .it) x known (u .rows) (u .deeps) (u .room) in
-      record { it = v .it; rows = v .rows; deeps = v .deeps; room = v .room; same = u .same ∙ v .same };
-    order = let o = w .order in omega arith; shallow = w .shallow }
+        let u = w .on g t x known h p q in
+        let v = f g (u .it) x known (u .rows) (u .deeps) (u .room) in
+        record { it = v .it; rows = v .rows; deeps = v .deeps; room = v .room; same = u .same ∙ v .same };
+    order = let o = w .order in omega arith;
+    shallow = w .shallow;
+  }
+
   module _ (l : ℕ) (c1 c2 : Conversations) (f : FollowSays s m j d′ n r (stand c) (Parted l c1 c2)) where
     pub walked-shallow : d′ ≡ 0 → WalkSays s m i d n r a None
     walked-shallow z g t x known h p q =
-      let u = w .on g t x known h p q in
-      let v = f g (u .it) x known (u .rows) (u .deeps) (u .room) in
-      let o = v .pos in
-      absurd (omega arith)
+        let u = w .on g t x known h p q in
+        let v = f g (u .it) x known (u .rows) (u .deeps) (u .room) in
+        let o = v .pos in
+        absurd (omega arith)
+
     pub walked-first : WalkSays s m l (d′ - 1) n r (stand c1) None → WalkSays s m i d n r a None
     walked-first one g t x known h p q =
-      let u = w .on g t x known h p q in
-      let v = f g (u .it) x known (u .rows) (u .deeps) (u .room) in
-      let e = one g (v .one) (rowA (v .two) ++ x) known (v .rows) (v .deep-one) (v .room-one) in
-      u .same ∙ (v .same ∙ ap (λ b. b && keeps g n r (v .two) (stand c2)) e)
+        let u = w .on g t x known h p q in
+        let v = f g (u .it) x known (u .rows) (u .deeps) (u .room) in
+        let e = one g (v .one) (rowA (v .two) ++ x) known (v .rows) (v .deep-one) (v .room-one) in
+        u .same ∙ (v .same ∙ ap (λ b. b && keeps g n r (v .two) (stand c2)) e)
+
     pub walked-second : (e : ℕ) → WalkSays s m l (d′ - 1) n r (stand c1) (Some e) → j < e → Walked s m n r i d a e (d′ - 1) c2
     walked-second e one lt = record {
       on = λ g t x known h p q.
-        let u = w .on g t x known h p q in
-        let v = f g (u .it) x known (u .rows) (u .deeps) (u .room) in
-        let k = one g (v .one) (rowA (v .two) ++ x) known (v .rows) (v .deep-one) (v .room-one) in
-        record { it = v .two; rows = k .1; deeps = v .deep-two; room = v .room-two; same = u .same ∙ (v .same ∙ ap (λ b. b && keeps g n r (v .two) (stand c2)) (k .0)) };
-      order = let o = w .order in omega arith; shallow = let o = w .shallow in omega arith }
+          let u = w .on g t x known h p q in
+          let v = f g (u .it) x known (u .rows) (u .deeps) (u .room) in
+          let k = one g (v .one) (rowA (v .two) ++ x) known (v .rows) (v .deep-one) (v .room-one) in
+          record { it = v .two; rows = k .1; deeps = v .deep-two; room = v .room-two; same = u .same ∙ (v .same ∙ ap (λ b. b && keeps g n r (v .two) (stand c2)) (k .0)) };
+      order = let o = w .order in omega arith;
+      shallow = let o = w .shallow in omega arith;
+    }

@@ -89,15 +89,18 @@ OfferSays s m c v d n r a o = (g : Program) (t u : Action) (x : List ℕ) → Kn
 
 abbrev pub StopSays : List ℕ → Map → ℕ → ℕ → ℕ → Bool → At → Course → Type 0
 StopSays s m v d n r a o = (g : Program) (x : List ℕ) → Known s m g → drop v s ≡ x → Outcome s g n r d x (keeps g n r stop a) o
+
 abbrev pub SetSays : List ℕ → Map → ℕ → ℕ → ℕ → ℕ → Bool → At → Course → Type 0
 SetSays s m y v d n r a o = (g : Program) (e : Expression) (t : Action) (x : List ℕ) → Known s m g → drop v s ≡ rowE e ++ (rowA t ++ x) → deep (set y e t) ≤ d → length a + new t ≤ 16 →
-  Outcome s g n r d x (keeps g n r (set y e t) a) o
+    Outcome s g n r d x (keeps g n r (set y e t) a) o
+
 abbrev pub IfSays : List ℕ → Map → ℕ → ℕ → ℕ → Bool → At → Course → Type 0
 IfSays s m v d n r a o = (g : Program) (e : Expression) (t u : Action) (x : List ℕ) → Known s m g → drop v s ≡ rowE e ++ (rowA t ++ (rowA u ++ x)) → deep (if e t u) ≤ d → length a + new (if e t u) ≤ 16 →
-  Outcome s g n r d x (keeps g n r (if e t u) a) o
+    Outcome s g n r d x (keeps g n r (if e t u) a) o
+
 abbrev pub ShowSays : List ℕ → Map → ℕ → ℕ → ℕ → Bool → At → Course → Type 0
 ShowSays s m v d n r a o = (g : Program) (e : Expression) (t : Action) (x : List ℕ) → Known s m g → drop v s ≡ rowE e ++ (rowA t ++ x) → deep (show e t) ≤ d → length a + new t ≤ 16 →
-  Outcome s g n r d x (keeps g n r (show e t) a) o
+    Outcome s g n r d x (keeps g n r (show e t) a) o
 
 -- what is left after a start of process f with so many numbers, handing on conversations cs: the starter goes on with it
 abbrev pub StartSays : Program → At → ℕ → List ℕ → ℕ → Option Conversations → Type 0
@@ -110,11 +113,13 @@ StartSays g a f cs many (Some c) = ((k : At → Bool) →
 -- becoming process f with so many numbers, handing on conversations cs, keeps
 abbrev pub becomes-well : Program → Bool → At → ℕ → List ℕ → ℕ → Bool
 becomes-well g r a f cs many = then (nth (g .procs) f) (λ p. eqb many (p .nums) && (alike r (eqb f 0) && then (hands a cs (p .talks)) (λ b. all-over g b)))
+
 -- the same of a start and a become, by their operands
 abbrev pub StartLooks : List ℕ → Map → Call → ℕ → ℕ → Bool → At → Course → Type 0
 StartLooks s m k d n r a o = (g : Program) (cs : List ℕ) (es : List Expression) (t : Action) (x y : List ℕ) → Known s m g → length cs ≡ k .count → drop (k .conversations) s ≡ cs ++ y →
-  length es ≡ k .expressions → drop (k .numbers) s ≡ rowEs es ++ (rowA t ++ x) → deep (start (k .process) cs es t) ≤ d → length a + new (start (k .process) cs es t) ≤ 16 →
-  Outcome s g n r d x (keeps g n r (start (k .process) cs es t) a) o
+    length es ≡ k .expressions → drop (k .numbers) s ≡ rowEs es ++ (rowA t ++ x) → deep (start (k .process) cs es t) ≤ d → length a + new (start (k .process) cs es t) ≤ 16 →
+    Outcome s g n r d x (keeps g n r (start (k .process) cs es t) a) o
+
 abbrev pub BecomeLooks : List ℕ → Map → Call → ℕ → ℕ → Bool → At → Course → Type 0
 BecomeLooks s m k d n r a o = (g : Program) (cs : List ℕ) (es : List Expression) (x y : List ℕ) → Known s m g → length cs ≡ k .count → drop (k .conversations) s ≡ cs ++ y →
-  length es ≡ k .expressions → drop (k .numbers) s ≡ rowEs es ++ x → deepEs es ≤ d → Outcome s g n r d x (keeps g n r (become (k .process) cs es) a) o
+    length es ≡ k .expressions → drop (k .numbers) s ≡ rowEs es ++ x → deepEs es ≤ d → Outcome s g n r d x (keeps g n r (become (k .process) cs es) a) o

@@ -118,7 +118,15 @@ pub fn look_at_offer(
     }
 }
 
-pub fn look_at_stop(p: &[u32], map: &Map, conversations: &Conversations, end: usize, depth: u32, variables: u32, root: bool) -> Course
+pub fn look_at_stop(
+    p: &[u32],
+    map: &Map,
+    conversations: &Conversations,
+    end: usize,
+    depth: u32,
+    variables: u32,
+    root: bool,
+) -> Course
     ensures behind { λ r. ⌜ CourseFrom (now (p .entry)) end r ⌝ }
     ensures says { λ r. ⌜ StopSays (now (p .entry)) (now (map .entry)) end depth variables root (stand (now (conversations .entry))) r ⌝ }
 {
@@ -128,7 +136,16 @@ pub fn look_at_stop(p: &[u32], map: &Map, conversations: &Conversations, end: us
     Course::Careless
 }
 
-pub fn look_at_set(p: &[u32], map: &Map, conversations: &Conversations, variable: u32, value: usize, depth: u32, variables: u32, root: bool) -> Course
+pub fn look_at_set(
+    p: &[u32],
+    map: &Map,
+    conversations: &Conversations,
+    variable: u32,
+    value: usize,
+    depth: u32,
+    variables: u32,
+    root: bool,
+) -> Course
     ensures behind { λ r. ⌜ CourseFrom (now (p .entry)) value r ⌝ }
     ensures says { λ r. ⌜ SetSays (now (p .entry)) (now (map .entry)) variable value depth variables root (stand (now (conversations .entry))) r ⌝ }
 {
@@ -141,7 +158,15 @@ pub fn look_at_set(p: &[u32], map: &Map, conversations: &Conversations, variable
     }
 }
 
-pub fn look_at_if(p: &[u32], map: &Map, conversations: &Conversations, test: usize, depth: u32, variables: u32, root: bool) -> Course
+pub fn look_at_if(
+    p: &[u32],
+    map: &Map,
+    conversations: &Conversations,
+    test: usize,
+    depth: u32,
+    variables: u32,
+    root: bool,
+) -> Course
     ensures behind { λ r. ⌜ CourseFrom (now (p .entry)) test r ⌝ }
     ensures says { λ r. ⌜ IfSays (now (p .entry)) (now (map .entry)) test depth variables root (stand (now (conversations .entry))) r ⌝ }
 {
@@ -151,7 +176,15 @@ pub fn look_at_if(p: &[u32], map: &Map, conversations: &Conversations, test: usi
     }
 }
 
-pub fn look_at_show(p: &[u32], map: &Map, conversations: &Conversations, value: usize, depth: u32, variables: u32, root: bool) -> Course
+pub fn look_at_show(
+    p: &[u32],
+    map: &Map,
+    conversations: &Conversations,
+    value: usize,
+    depth: u32,
+    variables: u32,
+    root: bool,
+) -> Course
     ensures behind { λ r. ⌜ CourseFrom (now (p .entry)) value r ⌝ }
     ensures says { λ r. ⌜ ShowSays (now (p .entry)) (now (map .entry)) value depth variables root (stand (now (conversations .entry))) r ⌝ }
 {

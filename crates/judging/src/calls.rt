@@ -92,7 +92,15 @@ pub fn becomes_well(
     }
 }
 
-pub fn look_at_start(p: &[u32], map: &Map, conversations: &Conversations, call: &Call, depth: u32, variables: u32, root: bool) -> Course
+pub fn look_at_start(
+    p: &[u32],
+    map: &Map,
+    conversations: &Conversations,
+    call: &Call,
+    depth: u32,
+    variables: u32,
+    root: bool,
+) -> Course
     requires { ⌜ now call .conversations + now call .count ≤ length (now p) ⌝ }
     ensures behind { λ r. ⌜ CourseFrom (now (p .entry)) (now (call .entry) .numbers) r ⌝ }
     ensures says { λ r. ⌜ StartLooks (now (p .entry)) (now (map .entry)) (now (call .entry)) depth variables root (stand (now (conversations .entry))) r ⌝ }
@@ -106,7 +114,15 @@ pub fn look_at_start(p: &[u32], map: &Map, conversations: &Conversations, call: 
     }
 }
 
-pub fn look_at_become(p: &[u32], map: &Map, conversations: &Conversations, call: &Call, depth: u32, variables: u32, root: bool) -> Course
+pub fn look_at_become(
+    p: &[u32],
+    map: &Map,
+    conversations: &Conversations,
+    call: &Call,
+    depth: u32,
+    variables: u32,
+    root: bool,
+) -> Course
     requires { ⌜ now call .conversations + now call .count ≤ length (now p) ⌝ }
     ensures behind { λ r. ⌜ CourseFrom (now (p .entry)) (now (call .entry) .numbers) r ⌝ }
     ensures says { λ r. ⌜ BecomeLooks (now (p .entry)) (now (map .entry)) (now (call .entry)) depth variables root (stand (now (conversations .entry))) r ⌝ }

@@ -1,12 +1,14 @@
 // Decides whether a program that was read keeps to its conversations.
-pub mod actions;
-pub mod calls;
-pub mod conversations;
-pub mod course;
-pub mod handing;
-pub mod moves;
-pub mod standing;
-pub mod variables;
-pub mod walk;
-pub mod points;
-pub mod program;
+mod actions;
+mod calls;
+mod conversations;
+mod course;
+mod handing;
+mod moves;
+mod points;
+mod program;
+mod standing;
+mod variables;
+mod walk;
+
+pub use crate::program::program_keeps;

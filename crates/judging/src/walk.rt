@@ -5,8 +5,8 @@ ghost use Rattle.judging.specs.Judging.{Behind};
 ghost use Rattle.judging.specs.Standing.{stand};
 use crate::actions::look_at_choose;
 use crate::actions::look_at_give;
-use crate::actions::look_at_offer;
 use crate::actions::look_at_if;
+use crate::actions::look_at_offer;
 use crate::actions::look_at_set;
 use crate::actions::look_at_show;
 use crate::actions::look_at_stop;
@@ -20,29 +20,146 @@ use rows::decode::instruction_at;
 use rows::map::Map;
 
 // What the action at a place comes to, with n variables, in process 0 or another.
-fn follow(p: &[u32], map: &Map, at: usize, conversations: &Conversations, depth: u32, variables: u32, root: bool) -> Course
+fn follow(
+    p: &[u32],
+    map: &Map,
+    at: usize,
+    conversations: &Conversations,
+    depth: u32,
+    variables: u32,
+    root: bool,
+) -> Course
     ensures behind { λ r. ⌜ CourseBehind (now (p .entry)) at r ⌝ }
     ensures says { λ r. ⌜ FollowSays (now (p .entry)) (now (map .entry)) at depth variables root (stand (now (conversations .entry))) r ⌝ }
 {
     match instruction_at(p, at) {
         None => Course::Careless,
         Some(instruction) => match instruction {
-            Instruction::Stop => look_at_stop(p, map, conversations, at + 1, depth, variables, root),
-            Instruction::Give { conversation, value } => look_at_give(p, map, conversations, conversation, value, depth, variables, root),
-            Instruction::Take { conversation, variable, next } => look_at_take(p, map, conversations, conversation, variable, next, depth, variables, root),
-            Instruction::Choose { conversation, way, next } => look_at_choose(p, map, conversations, conversation, way, next, depth, variables, root),
-            Instruction::Offer { conversation, first } => look_at_offer(p, map, conversations, conversation, first, depth, variables, root),
-            Instruction::Set { variable, value } => look_at_set(p, map, conversations, variable, value, depth, variables, root),
-            Instruction::If { test } => look_at_if(p, map, conversations, test, depth, variables, root),
-            Instruction::Show { value } => look_at_show(p, map, conversations, value, depth, variables, root),
-            Instruction::Start { call } => look_at_start(p, map, conversations, &call, depth, variables, root),
-            Instruction::Become { call } => look_at_become(p, map, conversations, &call, depth, variables, root),
+            Instruction::Stop => look_at_stop(
+                p,
+                map,
+                conversations,
+                at + 1,
+                depth,
+                variables,
+                root,
+            ),
+            Instruction::Give {
+                conversation,
+                value,
+            } => look_at_give(
+                p,
+                map,
+                conversations,
+                conversation,
+                value,
+                depth,
+                variables,
+                root,
+            ),
+            Instruction::Take {
+                conversation,
+                variable,
+                next,
+            } => look_at_take(
+                p,
+                map,
+                conversations,
+                conversation,
+                variable,
+                next,
+                depth,
+                variables,
+                root,
+            ),
+            Instruction::Choose {
+                conversation,
+                way,
+                next,
+            } => look_at_choose(
+                p,
+                map,
+                conversations,
+                conversation,
+                way,
+                next,
+                depth,
+                variables,
+                root,
+            ),
+            Instruction::Offer {
+                conversation,
+                first,
+            } => look_at_offer(
+                p,
+                map,
+                conversations,
+                conversation,
+                first,
+                depth,
+                variables,
+                root,
+            ),
+            Instruction::Set { variable, value } => look_at_set(
+                p,
+                map,
+                conversations,
+                variable,
+                value,
+                depth,
+                variables,
+                root,
+            ),
+            Instruction::If { test } => look_at_if(
+                p,
+                map,
+                conversations,
+                test,
+                depth,
+                variables,
+                root,
+            ),
+            Instruction::Show { value } => look_at_show(
+                p,
+                map,
+                conversations,
+                value,
+                depth,
+                variables,
+                root,
+            ),
+            Instruction::Start { call } => look_at_start(
+                p,
+                map,
+                conversations,
+                &call,
+                depth,
+                variables,
+                root,
+            ),
+            Instruction::Become { call } => look_at_become(
+                p,
+                map,
+                conversations,
+                &call,
+                depth,
+                variables,
+                root,
+            ),
         },
     }
 }
 
 // Whether what stands at a place keeps to the conversations; if it does, the place behind it.
-pub fn keeps_from(p: &[u32], map: &Map, at: usize, conversations: Conversations, depth: u32, variables: u32, root: bool) -> Option<usize>
+pub fn keeps_from(
+    p: &[u32],
+    map: &Map,
+    at: usize,
+    conversations: Conversations,
+    depth: u32,
+    variables: u32,
+    root: bool,
+) -> Option<usize>
     ensures behind { λ r. ⌜ Behind (now (p .entry)) at r ⌝ }
     ensures says { λ r. ⌜ WalkSays (now (p .entry)) (now (map .entry)) at depth variables root (stand conversations) r ⌝ }
 {

@@ -1,7 +1,9 @@
 // Reads rows of words: what stands at a place, and whether the whole is a program.
-pub mod actions;
+mod actions;
 pub mod decode;
-pub mod expressions;
+mod expressions;
 pub mod lookup;
 pub mod map;
-pub mod sections;
+mod sections;
+
+pub use crate::sections::read;

@@ -16,15 +16,17 @@ use Rattle.model.proofs.Writing.{one-program}
 
 pub judged-keeps : (s : List ℕ) (m : Map) → (g : Program) × Reads s g × Mapped s g m → ((g : Program) → Known s m g → true ≡ kept g) → JudgedSays s Keeps
 judged-keeps s m r k = (r .0, r .1, sym (k (r .0) (record { reads = r .1; mapped = r .2 })))
+
 pub judged-careless : (s : List ℕ) (m : Map) → (g : Program) × Reads s g × Mapped s g m → ((g : Program) → Known s m g → false ≡ kept g) → JudgedSays s Careless
 judged-careless s m r k = (r .0, r .1, sym (k (r .0) (record { reads = r .1; mapped = r .2 })))
 
 clash : (s : List ℕ) (g h : Program) → Reads s g → Reads s h → kept g ≡ true → kept h ≡ false → ⊥
 clash s g h rg rh t f =
-  let e = one-program s g h rg rh in
-  let k : true ≡ false = sym t ∙ (ap kept e ∙ f) in
-  let z : _≡_ {A = ℕ} 0 1 = cc in
-  omega arith
+    let e = one-program s g h rg rh in
+    let k : true ≡ false = sym t ∙ (ap kept e ∙ f) in
+    let z : _≡_ {A = ℕ} 0 1 = cc in
+    omega arith
+
 -- no two answers are right for one input
 pub judged-only : (s : List ℕ) (r q : Judged) → JudgedSays s r → JudgedSays s q → q ≡ r
 judged-only s Keeps Keeps a b = refl

@@ -3,9 +3,9 @@ ghost use mathlib.Core.Path.{_≡_};
 ghost use Rattle.model.specs.Theorems.{One-program};
 ghost use Rattle.talks.specs.declared.answers.Judged.{Judged as Answer};
 ghost use Rattle.talks.specs.Says.{JudgedSays};
-use judging::program::program_keeps;
+use judging::program_keeps;
 use rows::map::Map;
-use rows::sections::read;
+use rows::read;
 
 pub mod answers;
 

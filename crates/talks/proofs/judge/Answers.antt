@@ -7,15 +7,15 @@ use Rattle.talks.proofs.judge.Needs as need
 
 pub returns-then-not-read : need.returns-then-not-read
 returns-then-not-read c =
-  let says : JudgedSays (c .args .program .now) NoProgram = c .if-not-read .ensures tt in
-  record { says = says; one = one-program; only = λ q a. judged-only (c .args .program .now) NoProgram q says a }
+    let says : JudgedSays (c .args .program .now) NoProgram = c .if-not-read .ensures tt in
+    record { says = says; one = one-program; only = λ q a. judged-only (c .args .program .now) NoProgram q says a }
 
 pub returns-then-program-keeps : need.returns-then-program-keeps
 returns-then-program-keeps c =
-  let says : JudgedSays (c .args .program .now) Keeps = judged-keeps (c .args .program .now) (c .read .last .map) (c .if-not-read .ensures tt) (c .if-program-keeps .ensures tt) in
-  record { says = says; one = one-program; only = λ q a. judged-only (c .args .program .now) Keeps q says a }
+    let says : JudgedSays (c .args .program .now) Keeps = judged-keeps (c .args .program .now) (c .read .last .map) (c .if-not-read .ensures tt) (c .if-program-keeps .ensures tt) in
+    record { says = says; one = one-program; only = λ q a. judged-only (c .args .program .now) Keeps q says a }
 
 pub returns : need.returns
 returns c =
-  let says : JudgedSays (c .args .program .now) Careless = judged-careless (c .args .program .now) (c .read .last .map) (c .if-not-read .ensures tt) (c .if-program-keeps .ensures tt) in
-  record { says = says; one = one-program; only = λ q a. judged-only (c .args .program .now) Careless q says a }
+    let says : JudgedSays (c .args .program .now) Careless = judged-careless (c .args .program .now) (c .read .last .map) (c .if-not-read .ensures tt) (c .if-program-keeps .ensures tt) in
+    record { says = says; one = one-program; only = λ q a. judged-only (c .args .program .now) Careless q says a }

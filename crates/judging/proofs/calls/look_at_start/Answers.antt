@@ -9,4 +9,5 @@ returns-in-None-after-start c = record { behind = tt; says = start-careless (c .
 pub returns-in-Some-after-start : need.returns-in-Some-after-start
 returns-in-Some-after-start c = record {
   behind = c .in-Some .ensures tt .behind;
-  says = start-on (c .args .p .now) (c .args .map .now) (c .args .call .now) (c .args .depth) (c .args .variables) (c .args .root) (stand (c .args .conversations .now)) (c .in-Some .next) (c .in-Some-after-start .left) (c .in-Some .ensures tt .says) (c .in-Some-after-start .ensures tt) }
+  says = start-on (c .args .p .now) (c .args .map .now) (c .args .call .now) (c .args .depth) (c .args .variables) (c .args .root) (stand (c .args .conversations .now)) (c .in-Some .next) (c .in-Some-after-start .left) (c .in-Some .ensures tt .says) (c .in-Some-after-start .ensures tt);
+}

@@ -48,8 +48,6 @@ fn all_orders_agree()
 {}
 
 // The clerk and the till, with one turn, come to an end, and show 42 in all orders.
-pub fn shop_shows() -> u32
-    ensures { λ r. ⌜ Shop-shows r ⌝ }
-{
-    42
-}
+fn shop_shows()
+    ensures { λ _. ⌜ Shop-shows 42 ⌝ }
+{}

@@ -33,9 +33,6 @@ module _ (s : List ℕ) (m : Map) (g : Program) (known : Known s m g) (i : ℕ) 
   pub no-point : m .«point_count» ≤ i → nth (g .points) i ≡ none
   no-point h = let e = known .mapped .point-count in nth-past (g .points) i (omega arith)
 
-  pub few-points : 256 ≤ i → i < m .«point_count» → ⊥
-  few-points h lt = let e = known .mapped .point-count in let f = known .reads .points in omega arith
-
   pub point-is : (r : Option PointKind) → i < m .«point_count» → r ≡ pointAt s (getD (m .points) i 0) → PointIs g i r
   point-is r lt e =
       let c = known .mapped .point-count in
@@ -48,20 +45,8 @@ module _ (s : List ℕ) (m : Map) (g : Program) (known : Known s m g) (i : ℕ) 
   pub no-other : m .«point_count» ≤ i → nth (g .other) i ≡ none
   no-other h = let e = known .mapped .point-count in let f = known .reads .sides in nth-past (g .other) i (omega arith)
 
-  pub others-within : i < m .«point_count» → m .sides + i < length s
-  others-within lt = let e = known .mapped .point-count in let f = known .reads .sides in let w = known .mapped .room in omega arith
-
-  pub other-is : i < m .«point_count» → nth (g .other) i ≡ some (getD s (m .sides + i) 0)
-  other-is lt =
-      let e = known .mapped .point-count in let f = known .reads .sides in
-      let p = nth-there (g .other) i (omega arith) in
-      p .1 ∙ ap some (sym (known .mapped .sides i (p .0) (p .1)))
-
   pub no-process : m .«process_count» ≤ i → nth (g .procs) i ≡ none
   no-process h = let e = known .mapped .process-count in nth-past (g .procs) i (omega arith)
-
-  pub few-processes : 64 ≤ i → i < m .«process_count» → ⊥
-  few-processes h lt = let e = known .mapped .process-count in let f = known .reads .procs in omega arith
 
   process-found : (h : Head) → i < m .«process_count» → Some h ≡ headAt s (getD (m .processes) i 0) → ProcessFound s (m .second) g i h
   process-found h lt e =

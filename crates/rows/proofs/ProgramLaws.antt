@@ -13,7 +13,7 @@ use Rattle.rows.specs.Reading.{Seconds, Same-below}
 use Rattle.rows.specs.declared.map.Map.{Map}
 use Rattle.rows.specs.Mapped.{ProcessAt, Mapped}
 use Rattle.rows.specs.Sections.{PointsAt, ProcessTo, NoProcess, ProcessesAt, NoProcesses, ReadSays}
-use Rattle.rows.proofs.Places.{rest-at, drop-one, drop-list, getD-nth}
+use Rattle.rows.proofs.Places.{rest-at, drop-one, drop-list, nth-getD}
 use Rattle.rows.proofs.Series.{rows-snoc, Rest, rows-front}
 use Rattle.rows.proofs.Walks.{seconds-same}
 use Rattle.model.specs.Program.{nth, Process, Program}
@@ -204,12 +204,11 @@ module _ (s table : List ℕ) (n sides : ℕ) (first : getD s 0 0 ≡ n) (a : Po
     program-mapped m e1 e2 e3 e4 e5 e6 = record {
       point-count = e4 ∙ sym (a .many);
       points = λ i p h. let q = a .places i p h in (q .0, ap (λ t. drop (getD t i 0) s) e1 ∙ q .1);
-      sides = λ i j h.
+      sides = λ i h.
           let os = front n (drop sides s) in
-          let b1 = nth-below os i h in
           let b2 : length os ≡ n = simp (length-take, length-drop) (omega arith) in
           let lt : i < n = omega arith in
-          ap (λ (q : ℕ). getD s (q + i) 0) e5 ∙ (sym (getD-drop sides s i 0) ∙ (sym (getD-take n (drop sides s) i 0 lt) ∙ getD-nth os i 0 h));
+          nth-getD os i 0 h ∙ ap some (getD-take n (drop sides s) i 0 lt ∙ (getD-drop sides s i 0 ∙ ap (λ (q : ℕ). getD s (q + i) 0) (sym e5)));
       room =
           let within = a .within (omega arith) in
           let long : length (front n (drop sides s)) ≡ n = simp (length-take, length-drop) (omega arith) in

@@ -2,7 +2,7 @@
 use mathlib.Core.Path.{_≡_}
 use mathlib.Core.List.{List, [], _∷_, _++_}
 use mathlib.Core.Option.{some, none}
-use Prim.Native.Nat.{ℕ, _+_, _≤_}
+use Prim.Native.Nat.{ℕ, _+_, _≤_, _<_}
 use lib.ListN.{length, drop, getD}
 use Rattle.std.specs.declared.option.Option.{Option}
 use Rattle.std.specs.Options.{Cases}
@@ -33,7 +33,7 @@ pub record HeadIs (s : List ℕ) (i : ℕ) (h : Head) (p : Process) (x : List �
 pub record Mapped (s : List ℕ) (g : Program) (m : Map) : Type 0 where
   pub point-count : m .«point_count» ≡ length (g .points)
   pub points : (i : ℕ) (p : Point) → nth (g .points) i ≡ some p → (x : List ℕ) × (drop (getD (m .points) i 0) s ≡ rowP p ++ x)
-  pub sides : (i j : ℕ) → nth (g .other) i ≡ some j → getD s (m .sides + i) 0 ≡ j
+  pub sides : (i : ℕ) → i < length (g .other) → nth (g .other) i ≡ some (getD s (m .sides + i) 0)
   pub room : m .sides + length (g .other) ≤ length s
   pub process-count : m .«process_count» ≡ length (g .procs)
   pub processes : (i : ℕ) (p : Process) → nth (g .procs) i ≡ some p → ProcessAt s (m .second) (getD (m .processes) i 0) p

@@ -14,3 +14,7 @@ abbrev pub JudgedSays : List ℕ → Judged → Type 0
 JudgedSays s Keeps = (g : Program) × Reads s g × (kept g ≡ true)
 JudgedSays s Careless = (g : Program) × Reads s g × (kept g ≡ false)
 JudgedSays s NoProgram = (g : Program) → Reads s g → ⊥
+
+-- The answers exclude one another: none but this one is right.
+abbrev pub Only : List ℕ → Judged → Type 0
+Only s r = (q : Judged) → JudgedSays s q → q ≡ r

@@ -1,13 +1,10 @@
 use native.Mathlib.Omega.{arith}
 use borrow.Author.Needs.{needs}
-use Rattle.rows.proofs.Lookups.{no-process, few-processes, process-is, head-within}
+use Rattle.rows.proofs.Lookups.{no-process, process-is, head-within}
 use Rattle.rows.proofs.lookup.process_of.Needs as need
 
 pub returns-then-i-map : need.returns-then-i-map
 returns-then-i-map c = record { within = tt; is = λ g known. no-process (c .args .p .now) (c .args .map .now) g known (c .args .process) (omega arith) }
-
-pub returns-then-i-ge64 : need.returns-then-i-ge64
-returns-then-i-ge64 c = record { within = tt; is = λ g known. absurd (few-processes (c .args .p .now) (c .args .map .now) g known (c .args .process) (omega arith) (omega arith)) }
 
 pub returns : need.returns
 returns c = record {

@@ -3,7 +3,7 @@ use Rattle.model.proofs.Writing.{one-program}
 use Rattle.talks.specs.declared.answers.Judged.the-variants.{Keeps, Careless, NoProgram}
 use Rattle.talks.specs.Says.{JudgedSays}
 use Rattle.talks.proofs.Judges.{judged-keeps, judged-careless, judged-only}
-use Rattle.talks.proofs.judge.Needs as need
+use Rattle.talks.proofs.examine.Needs as need
 
 pub returns-then-not-read : need.returns-then-not-read
 returns-then-not-read c =

@@ -1,0 +1,1 @@
+-- No proof is written by hand here.

@@ -1,0 +1,12 @@
+-- The answers as numbers.
+use mathlib.Core.List.{List}
+use Prim.Native.Nat.{ℕ, zero, suc}
+use Rattle.talks.specs.declared.answers.Judged.the-variants.{Keeps, Careless, NoProgram}
+use Rattle.talks.specs.Says.{JudgedSays}
+
+-- 0 is Keeps, 1 is Careless, 2 is NoProgram, and there is no other
+abbrev pub JudgeCode : List ℕ → ℕ → Type 0
+JudgeCode s zero = JudgedSays s Keeps
+JudgeCode s (suc zero) = JudgedSays s Careless
+JudgeCode s (suc (suc zero)) = JudgedSays s NoProgram
+JudgeCode s (suc (suc (suc n))) = ⊥

@@ -1,0 +1,2 @@
+-- What the numbers that the C functions return mean.
+pub mod Codes

@@ -7,7 +7,8 @@ use Prim.Native.Nat.{ℕ, zero, suc, _+_}
 use native.Mathlib.Omega.{arith}
 use lib.ListN.{length}
 use lib.Dec.{eqb, ltb}
-use Rattle.model.specs.Program.{nth, or, put, Point, over, gives, takes, chooses, offers, Action, stop, give, take, choose, offer, set, if, show, start, become, Process, Program}
+use borrow.Author.Tests.{eqb-true}
+use Rattle.model.specs.Program.{nth, or, put, Point, over, gives, takes, chooses, offers, Expression, Action, stop, give, take, choose, offer, set, if, show, start, become, Process, Program}
 use Rattle.model.specs.Keeps.{then, is, Ways, ways, way, is-over, after-give, after-take, after-choose, after-offer, At, moves, all-over, ok, oks, hands, first, rest, alike, keeps, begins, all-keep, mutual-sides, mutual-ways, faces, points-fit, root, kept}
 use Rattle.model.specs.Picture.{Keeps-on, Mutual}
 use Rattle.model.proofs.Lists.{nth-below, nth-there}
@@ -129,6 +130,26 @@ next g (become f cs es) a k =
     let p = then-open (nth (g .procs) f) _ (and-right (oks (k .0) es) _ (k .2)) in
     let b = then-open (hands a cs (p .0 .talks)) _ (and-right (alike (k .1) (eqb f 0)) _ (and-right (eqb (length es) (p .0 .nums)) _ (p .2))) in
     record { process = p .0; left = b .0; is-process = p .1; hands-on = b .1; all-over = all-over-open g (b .0) (b .2) }
+
+-- as many numbers are handed on as the process takes in
+eqb-open : (m n : ℕ) → eqb m n ≡ true → m ≡ n
+eqb-open m n h = grind (arith, eqb-true)
+
+pub numbers-start : (g : Program) (f : ℕ) (cs : List ℕ) (es : List Expression) (s : Action) (a : At) → Keeps-on g (start f cs es s) a → (p : Process) → nth (g .procs) f ≡ some p → length es ≡ p .nums
+numbers-start g f cs es s a k p h =
+    let q = then-open (nth (g .procs) f) _ (and-right (oks (k .0) es) _ (k .2)) in
+    let e = eqb-open (length es) (q .0 .nums) (and-left (eqb (length es) (q .0 .nums)) _ (q .2)) in
+    let r = q .1 in
+    let same : q .0 ≡ p = cc in
+    e ∙ ap (λ x. x .nums) same
+
+pub numbers-become : (g : Program) (f : ℕ) (cs : List ℕ) (es : List Expression) (a : At) → Keeps-on g (become f cs es) a → (p : Process) → nth (g .procs) f ≡ some p → length es ≡ p .nums
+numbers-become g f cs es a k p h =
+    let q = then-open (nth (g .procs) f) _ (and-right (oks (k .0) es) _ (k .2)) in
+    let e = eqb-open (length es) (q .0 .nums) (and-left (eqb (length es) (q .0 .nums)) _ (q .2)) in
+    let r = q .1 in
+    let same : q .0 ≡ p = cc in
+    e ∙ ap (λ x. x .nums) same
 
 -- what one point says fits what another says
 pub data Dual (g : Program) : Point → Point → Type 0 where

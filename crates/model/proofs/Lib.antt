@@ -8,6 +8,7 @@ pub mod Handing
 pub mod Forest
 pub mod Invariant
 pub mod Sound
+pub mod Room
 pub mod Circle
 pub mod Pictured
 pub mod Progress

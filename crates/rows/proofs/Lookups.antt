@@ -25,7 +25,7 @@ nth-past [] i h = refl
 nth-past (x ∷ xs) zero h = absurd (omega arith)
 nth-past (x ∷ xs) (suc i) h = nth-past xs i (omega arith)
 
-pub head-within : (s : List ℕ) (i : ℕ) (r : Option Head) → found r (λ h. HeadWords s i h) → found r (λ h. h .talks + h .count ≤ length s)
+pub head-within : (s : List ℕ) (i : ℕ) (r : Option Head) → found r (λ h. HeadWords s i h) → found r (λ h. (h .talks + h .count ≤ h .body) × (h .body ≤ length s))
 head-within s i None w = tt
 head-within s i (Some h) w = omega arith
 

@@ -51,7 +51,7 @@ pub fn other_of(p: &[u32], map: &Map, point: u32) -> Option<u32>
 
 // The beginning of a process, if it is there.
 pub fn process_of(p: &[u32], map: &Map, process: u32) -> Option<Head>
-    ensures within { λ r. ⌜ found r (λ h. h .talks + h .count ≤ length (now (p .entry))) ⌝ }
+    ensures within { λ r. ⌜ found r (λ h. (h .talks + h .count ≤ h .body) × (h .body ≤ length (now (p .entry)))) ⌝ }
     ensures is { λ r. ⌜ ((g : Program) → Known (now (p .entry)) (now (map .entry)) g → ProcessIs (now (p .entry)) (now (map .entry) .second) g process r) ⌝ }
 {
     let i = process as usize;

@@ -1,0 +1,4 @@
+-- The laws of evaluation.
+pub mod ValueLaws
+pub mod HandingLaws
+pub mod GivingLaws

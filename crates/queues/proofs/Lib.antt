@@ -1,0 +1,2 @@
+-- The laws of rings.
+pub mod RingLaws

@@ -1,0 +1,2 @@
+// Records of processes in lent words.
+pub mod process;

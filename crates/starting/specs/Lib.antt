@@ -1,0 +1,4 @@
+-- What the contracts of this crate speak of.
+pub mod Heads
+pub mod Beginning
+pub mod Begins

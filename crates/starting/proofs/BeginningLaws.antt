@@ -10,7 +10,7 @@ use Rattle.model.specs.Steps.{Endpoint, without, own-end}
 use Rattle.records.specs.Records.{Record, recordAt, Kept, begins, with-end, spends, moved}
 use Rattle.evaluation.specs.Handing.{with-ends, with-numbers, taken-from}
 use Rattle.evaluation.proofs.GivingLaws.{kept-then, kept-as}
-use Rattle.turns.proofs.Lists.{length-put}
+use Rattle.model.proofs.Lists.{length-put}
 use Rattle.starting.specs.Beginning.{begun-with, released}
 
 pub length-without : (es : List (Option Endpoint)) (cs : List ℕ) → length (without es cs) ≡ length es

@@ -27,7 +27,7 @@ use Rattle.turns.specs.Holding.{Holds, Below, weight, weight-in, bank, potentia
 use Rattle.turns.specs.Scheduling.{wish, waiting, end-of, In, Runs, Scheduled}
 use Rattle.turns.specs.Meeting.{Apart}
 use Rattle.turns.specs.Turning.{Crammed, starting, becoming, Oddness, crammed, Before, After, OneMore, Doing}
-use Rattle.turns.proofs.Lists.{same?, nth-below, length-put, nth-put-same, nth-put-other, nth-snoc-last}
+use Rattle.model.proofs.Lists.{same?, nth-below, length-put, nth-put-same, nth-put-other, nth-snoc-last}
 use Rattle.turns.proofs.Queue.{in-here, in-there, in-split}
 use Rattle.turns.proofs.Potential.{potential-drop, potential-more}
 use Rattle.turns.proofs.HoldingLaws.{holding-more}

@@ -26,7 +26,7 @@ use Rattle.evaluation.proofs.GivingLaws.{kept-then, kept-as}
 use Rattle.turns.specs.Holding.{Holds, Below, Holding, potential, weight, weight-in, bank}
 use Rattle.turns.specs.Scheduling.{waiting, In, Runs, Scheduled}
 use Rattle.turns.specs.Turning.{Before, After, Doing}
-use Rattle.turns.proofs.Lists.{same?, nth-below, nth-put-same, nth-put-other}
+use Rattle.model.proofs.Lists.{same?, nth-below, nth-put-same, nth-put-other}
 use Rattle.turns.proofs.Queue.{in-here, in-there, in-split}
 use Rattle.turns.proofs.Potential.{potential-drop}
 use Rattle.turns.proofs.HoldingLaws.{holding-one, below-as}

@@ -15,7 +15,7 @@ use Rattle.turns.specs.Holding.{Holds, Below, Holding, potential, weight}
 use Rattle.turns.specs.Scheduling.{wish, end-of, waiting, In, Waits, Runs, Scheduled}
 use Rattle.turns.specs.Meeting.{Apart, Meets}
 use Rattle.turns.specs.Turning.{Oddness, shared, Before, After, Parked}
-use Rattle.turns.proofs.Lists.{same?, nth-below, nth-put-same, nth-put-other}
+use Rattle.model.proofs.Lists.{same?, nth-below, nth-put-same, nth-put-other}
 use Rattle.turns.proofs.Queue.{in-here, in-there, in-split}
 use Rattle.turns.proofs.Potential.{potential-drop}
 use Rattle.turns.proofs.HoldingLaws.{holding-two, below-as}

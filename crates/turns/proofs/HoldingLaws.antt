@@ -11,7 +11,7 @@ use Rattle.model.specs.Steps.{Endpoint, Worker, Configuration, end}
 use Rattle.records.specs.Records.{Record, recordAt, Kept}
 use Rattle.turns.specs.Holding.{Holds, Below, Holding}
 use Rattle.turns.specs.Meeting.{Apart}
-use Rattle.turns.proofs.Lists.{nth-below, length-put, nth-put-split, nth-snoc-split}
+use Rattle.model.proofs.Lists.{nth-below, length-put, nth-put-split, nth-snoc-split}
 
 holds-at : {s m : List ℕ} {w v : Worker} {r q : Record} → q ≡ r → v ≡ w → Holds s m r w → Holds s m q v
 holds-at {s} {m} {w} {v} {r} {q} e f h = subst (λ (o : Record). Holds s m o v) (sym e) (subst (λ (o : Worker). Holds s m r o) (sym f) h)

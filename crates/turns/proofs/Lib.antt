@@ -1,5 +1,4 @@
 -- The laws of holding and of scheduling.
-pub mod Lists
 pub mod Moves
 pub mod Found
 pub mod MeetingLaws

@@ -10,7 +10,7 @@ use Rattle.model.specs.Program.{nth, Program, Action, stop, give, take, choose,
 use Rattle.model.specs.Steps.{Endpoint, running, Worker, Configuration, end, Alone, stops, sets, ifs, shows, starts, becomes, starts-spent, becomes-spent, Together, passes, agrees, Facing, Step, alone, together}
 use Rattle.model.specs.Theorems.{Still}
 use Rattle.turns.specs.Scheduling.{wish, end-of, waiting, In, Waits, Runs, Scheduled}
-use Rattle.turns.proofs.Lists.{same?}
+use Rattle.model.proofs.Lists.{same?}
 
 -- a schedule is one of those that are ready, not of a list of them
 pub scheduled-same : {g : Program} {works : List Worker} {waiter : Endpoint → Option ℕ} {P Q : ℕ → Type 0} → ((i : ℕ) → P i → Q i) → ((i : ℕ) → Q i → P i) → Scheduled g works waiter P → Scheduled g works waiter Q

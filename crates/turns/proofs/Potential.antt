@@ -5,7 +5,7 @@ use Prim.Native.Nat.{ℕ, zero, suc, _+_, _-_, _<_, _≤_}
 use native.Mathlib.Omega.{arith}
 use lib.ListN.{length}
 use mathlib.Core.Logic.{_⊎_, inl, inr}
-use Rattle.turns.proofs.Lists.{same?}
+use Rattle.model.proofs.Lists.{same?}
 use Rattle.records.specs.Tables.{table}
 use Rattle.records.specs.Records.{Record, recordAt}
 use Rattle.records.proofs.TableLaws.{table-snoc}

@@ -1,2 +1,3 @@
 -- The proofs of what the calls promise.
 pub mod Judges
+pub mod Runs

@@ -1,0 +1,4 @@
+-- What the contracts of this crate speak of.
+pub mod Running
+pub mod Ending
+pub mod Setting

@@ -1,7 +1,7 @@
 -- What a run promises when it ends.
 use mathlib.Core.Path.{_≡_}
 use mathlib.Core.List.{List}
-use Prim.Native.Nat.{ℕ, _<_}
+use Prim.Native.Nat.{ℕ, _<_, _≤_}
 use lib.ListN.{length}
 use Rattle.model.specs.Program.{Program}
 use Rattle.model.specs.Steps.{Configuration, Steps}
@@ -32,11 +32,12 @@ pub record Reached (s second : List ℕ) (g : Program) (old procs lines ready sh
   pub running : Running s second g old procs lines ready shown r now
 
 -- where no step is possible: how many processes there are and what was shown
-pub record Finished (s second : List ℕ) (g : Program) (old procs shown : List ℕ) (count total : ℕ) (a : Configuration) : Type 0 where
+pub record Finished (s second : List ℕ) (g : Program) (most : ℕ) (old procs shown : List ℕ) (count total : ℕ) (a : Configuration) : Type 0 where
   pub now : Configuration
   pub steps : Steps g a now
   pub still : Still g now
   pub holding : Holding s second procs count now
+  pub few : count ≤ most
   pub written : shown ≡ overlay (now .shown) old
   pub total-is : total ≡ counted (now .shown)
 -- some steps lead to more processes than so many
@@ -51,7 +52,7 @@ pub record Strange (g : Program) (a : Configuration) : Type 0 where
   pub odd : Oddness g now
 
 abbrev pub Ending : List ℕ → List ℕ → Program → ℕ → List ℕ → List ℕ → List ℕ → Configuration → Ended → Type 0
-Ending s second g most old procs shown a (Ended-still count total) = Finished s second g old procs shown count total a
+Ending s second g most old procs shown a (Ended-still count total) = Finished s second g most old procs shown count total a
 Ending s second g most old procs shown a Crowded = TooMany g most a
 Ending s second g most old procs shown a Odd = Strange g a
 -- for every program that the words are the writing of, and every configuration that they hold at first

@@ -6,6 +6,7 @@ use Prim.Native.Nat.{ℕ}
 use native.Mathlib.Omega.{arith}
 use Rattle.talks.specs.declared.answers.Judged.{Judged}
 use Rattle.talks.specs.declared.answers.Judged.the-variants.{Keeps, Careless, NoProgram}
+use Rattle.talks.specs.Once.{Kept}
 use Rattle.talks.specs.Says.{JudgedSays}
 use Rattle.rows.specs.declared.map.Map.{Map}
 use Rattle.rows.specs.Mapped.{Known, Mapped}
@@ -38,3 +39,15 @@ judged-only s Careless NoProgram a b = absurd (b (a .0) (a .1))
 judged-only s NoProgram Keeps a b = absurd (a (b .0) (b .1))
 judged-only s NoProgram Careless a b = absurd (a (b .0) (b .1))
 judged-only s NoProgram NoProgram a b = refl
+
+-- a program that is judged to keep is known
+pub kept-known : (s : List ℕ) (m : Map) → (g : Program) × Reads s g × Mapped s g m → ((g : Program) → Known s m g → true ≡ kept g) → Kept s m
+kept-known s m r k =
+    let known : Known s m (r .0) = record { reads = r .1; mapped = r .2 } in
+    record { program = r .0; known = known; keeps = sym (k (r .0) known) }
+
+pub not-keeps : {A : Type 0} → NoProgram ≡ Keeps → A
+not-keeps e = let z : _≡_ {A = ℕ} 0 1 = cc in absurd (omega arith)
+
+pub careless-keeps : {A : Type 0} → Careless ≡ Keeps → A
+careless-keeps e = let z : _≡_ {A = ℕ} 0 1 = cc in absurd (omega arith)

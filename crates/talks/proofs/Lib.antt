@@ -1,3 +1,4 @@
 -- The proofs of what the calls promise.
 pub mod Judges
-pub mod Runs
+pub mod Answering
+pub mod RunLaws

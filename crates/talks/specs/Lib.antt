@@ -1,3 +1,4 @@
 -- What the calls promise.
 pub mod Says
+pub mod Once
 pub mod Runs

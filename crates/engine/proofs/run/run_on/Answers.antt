@@ -40,4 +40,4 @@ returns-in-Odd c g a old reads mapped run =
 
 pub returns : need.returns
 returns c g a old reads mapped run =
-  reached-still (c .args .p .now) (c .args .map .now .second) g old (c .turns .processes) (c .turns .lines) (c .turns .ready) (c .turns .shown) (c .turns .now) a (c .turns .inv .1 g a old reads mapped run) (c .turns-test .left)
+  reached-still (c .args .p .now) (c .args .map .now .second) g old (c .turns .processes) (c .turns .lines) (c .turns .ready) (c .turns .shown) (c .turns .now) a (c .turns .inv .1 g a old reads mapped run) (c .args .most) (c .turns .inv .0 .count) (c .turns-test .left)

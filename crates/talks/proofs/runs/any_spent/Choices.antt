@@ -1,0 +1,11 @@
+use mathlib.Core.Path.{_≡_}
+use Prim.Native.Nat.{ℕ, _<_, _-_}
+use Rattle.records.specs.Records.{recordAt}
+use Rattle.model.specs.Steps.{spent}
+use Rattle.talks.proofs.runs.any_spent.Given as given
+
+abbrev pub Inv-look : given.InvT-look
+Inv-look l = (k : ℕ) → k < l .i → recordAt (l .processes) k .state ≡ spent → ⊥
+
+abbrev pub μ-look : given.MeasureT-look
+μ-look l = l .count - l .i

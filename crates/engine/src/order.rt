@@ -27,5 +27,11 @@ pub fn draw_place(order: Order, count: usize) -> Draw
     let a = order.state ^ (order.state << 13);
     let b = a ^ (a >> 7);
     let c = b ^ (b << 17);
-    Draw { place: (c % count as u64) as usize, order: Order { drawn: true, state: c } }
+    Draw {
+        place: (c % count as u64) as usize,
+        order: Order {
+            drawn: true,
+            state: c,
+        },
+    }
 }

@@ -23,7 +23,16 @@ pub enum Ended {
 }
 
 // Runs from where the words stand.
-pub fn run_on(p: &[u32], map: &Map, processes: &mut [u32], lines: &mut [u32], ready: &mut [u32], shown: &mut [u32], most: usize, from: Run) -> Ended
+pub fn run_on(
+    p: &[u32],
+    map: &Map,
+    processes: &mut [u32],
+    lines: &mut [u32],
+    ready: &mut [u32],
+    shown: &mut [u32],
+    most: usize,
+    from: Run,
+) -> Ended
     requires words { ⌜ length (now p) ≤ 16384 ⌝ }
     requires room { ⌜ Room most (now processes) (now lines) (now ready) from ⌝ }
     requires held { ⌜ Held (now p) (now map) (now processes) (now lines) (now ready) (now shown) from ⌝ }
@@ -37,5 +46,8 @@ pub fn run_on(p: &[u32], map: &Map, processes: &mut [u32], lines: &mut [u32], re
             Stepped::Odd => return Ended::Odd,
         }
     }
-    Ended::Still { count: now.count, total: now.total }
+    Ended::Still {
+        count: now.count,
+        total: now.total,
+    }
 }

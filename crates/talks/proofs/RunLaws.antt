@@ -37,23 +37,26 @@ waits-holds w e h = go (wish (w .todo)) h
 module _ (s : List ℕ) (g : Program) (reads : Reads s g) (keeps : kept g ≡ true) (turns : ℕ) (a : Configuration) (run : Steps g (begin g turns) a) where
   sound : Sound g (a .workers) (a .next)
   sound = reached-sound g (good g (reads .sides) keeps) turns a run
+
   keeps-on : (i : ℕ) (w : Worker) → nth (a .workers) i ≡ some w → Keeps-on g (w .todo) (places (sound .point) (w .ends))
   keeps-on = sound .inv .kept
+
   not-crammed : (i : ℕ) (w : Worker) → nth (a .workers) i ≡ some w → Crammed g w → ⊥
   not-crammed i w h (starting f cs es t p todo is over) =
-    let at = places (sound .point) (w .ends) in
-    let fits = start-fits g at f cs es t (subst (λ x. Keeps-on g x at) todo (keeps-on i w h)) p is in
-    let fine = fine-nth (g .procs) f (reads .fine) is in
-    let room = reached-room s g reads keeps turns a run i w h in
-    let n = ap new todo in
-    let f1 = fits .talks in let f2 = fits .numbers in let k1 = fine .talks in let k2 = fine .vars in let k3 = fine .nums in
-    omega arith
+      let at = places (sound .point) (w .ends) in
+      let fits = start-fits g at f cs es t (subst (λ x. Keeps-on g x at) todo (keeps-on i w h)) p is in
+      let fine = fine-nth (g .procs) f (reads .fine) is in
+      let room = reached-room s g reads keeps turns a run i w h in
+      let n = ap new todo in
+      let f1 = fits .talks in let f2 = fits .numbers in let k1 = fine .talks in let k2 = fine .vars in let k3 = fine .nums in
+      omega arith
   not-crammed i w h (becoming f cs es p todo is over) =
-    let at = places (sound .point) (w .ends) in
-    let fits = become-fits g at f cs es (subst (λ x. Keeps-on g x at) todo (keeps-on i w h)) p is in
-    let fine = fine-nth (g .procs) f (reads .fine) is in
-    let f1 = fits .talks in let f2 = fits .numbers in let k1 = fine .talks in let k2 = fine .vars in let k3 = fine .nums in
-    omega arith
+      let at = places (sound .point) (w .ends) in
+      let fits = become-fits g at f cs es (subst (λ x. Keeps-on g x at) todo (keeps-on i w h)) p is in
+      let fine = fine-nth (g .procs) f (reads .fine) is in
+      let f1 = fits .talks in let f2 = fits .numbers in let k1 = fine .talks in let k2 = fine .vars in let k3 = fine .nums in
+      omega arith
+
   -- nothing odd is ever met
   pub nothing-odd : Oddness g a → ⊥
   nothing-odd (shared i j w v e ne h k rw rv ww wv) = ne (sound .inv .holder i j e (w, h, waits-holds w e ww) (v, k, waits-holds v e wv))
@@ -63,14 +66,15 @@ module _ (s : List ℕ) (g : Program) (reads : Reads s g) (keeps : kept g ≡ tr
 module _ (s second : List ℕ) (procs : List ℕ) (count : ℕ) (a : Configuration) (holding : Holding s second procs count a) where
   pub spent-is : SpentSays procs count true → Out a
   spent-is (r) =
-    let m = holding .many in
-    let w = nth-there (a .workers) (r .0) (let l = r .1 in omega arith) in
-    (r .0, w .0, w .1, sym (holding .each (r .0) (w .0) (w .1) .state) ∙ r .2)
+      let m = holding .many in
+      let w = nth-there (a .workers) (r .0) (let l = r .1 in omega arith) in
+      (r .0, w .0, w .1, sym (holding .each (r .0) (w .0) (w .1) .state) ∙ r .2)
+
   pub spent-not : SpentSays procs count false → Out a → ⊥
   spent-not nobody out =
-    let m = holding .many in
-    let b = nth-below (a .workers) (out .0) (out .2) in
-    nobody (out .0) (omega arith) (holding .each (out .0) (out .1) (out .2) .state ∙ out .3)
+      let m = holding .many in
+      let b = nth-below (a .workers) (out .0) (out .2) in
+      nobody (out .0) (omega arith) (holding .each (out .0) (out .1) (out .2) .state ∙ out .3)
 
 -- what is said of a flag that is true, or false
 by-flag : {A B : Type 0} (b : Bool) (P : Bool → Type 0) → P b → (P true → A) → (P false → B) → (b ≡ true → A) × (b ≡ false → B)
@@ -78,9 +82,9 @@ by-flag true P p f g = ((λ e. f p), (λ e. let z : _≡_ {A = ℕ} 0 1 = cc in 
 by-flag false P p f g = ((λ e. let z : _≡_ {A = ℕ} 0 1 = cc in absurd (omega arith)), (λ e. g p))
 
 pub finished : (s : List ℕ) (m : Map) (g : Program) (most turns count total : ℕ) (old procs shown : List ℕ) (out : Bool) → Engine-finished s (m .second) g most old procs shown count total (begin g turns) → SpentSays procs count out →
-  Finished g most turns old shown total out
+    Finished g most turns old shown total out
 finished s m g most turns count total old procs shown out f sp =
-  let h = f .holding in
-  let k = h .many in let l = f .few in
-  let q = by-flag out (SpentSays procs count) sp (spent-is s (m .second) procs count (f .now) h) (spent-not s (m .second) procs count (f .now) h) in
-  record { end = f .now; steps = f .steps; still = f .still; few = omega arith; written = f .written; total-is = f .total-is; spent-is = q .0; not-spent = q .1 }
+    let h = f .holding in
+    let k = h .many in let l = f .few in
+    let q = by-flag out (SpentSays procs count) sp (spent-is s (m .second) procs count (f .now) h) (spent-not s (m .second) procs count (f .now) h) in
+    record { end = f .now; steps = f .steps; still = f .still; few = omega arith; written = f .written; total-is = f .total-is; spent-is = q .0; not-spent = q .1 }

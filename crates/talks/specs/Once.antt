@@ -36,11 +36,13 @@ pub record Finished (g : Program) (most turns : ℕ) (old shown : List ℕ) (tot
   pub total-is : total ≡ counted (end .shown)
   pub spent-is : out ≡ true → Out end
   pub not-spent : out ≡ false → Out end → ⊥
+
 -- some steps lead to more processes than so many
 pub record TooMany (g : Program) (most turns : ℕ) : Type 0 where
   pub now : Configuration
   pub steps : Steps g (begin g turns) now
   pub many : most < length (now .workers)
+
 abbrev pub OnceSays : List ℕ → Map → ℕ → ℕ → List ℕ → List ℕ → Outcome → Type 0
 OnceSays s m most turns old shown (Ended-still total out) = (g : Program) → Known s m g → kept g ≡ true → Finished g most turns old shown total out
 OnceSays s m most turns old shown Crowded = (g : Program) → Known s m g → kept g ≡ true → TooMany g most turns

@@ -32,6 +32,7 @@ rank Crowded = 3
 rank OutFull = 4
 rank (Done k) = 5
 rank (Spent k) = 5
+
 -- The condition of the answers of a rank, for w work words and room for so many numbers: there are too few work words;
 -- the words are no program; the program does not keep; in some order there are too many processes; an order that comes
 -- to an end shows more than there is room for.
@@ -42,6 +43,7 @@ When s n turns room w (suc (suc zero)) = (g : Program) × Reads s g × (kept g �
 When s n turns room w (suc (suc (suc zero))) = (g : Program) × (a : Configuration) × Reads s g × (kept g ≡ true) × Steps g (begin g turns) a × (n < length (a .workers))
 When s n turns room w (suc (suc (suc (suc zero)))) = (g : Program) × (a : Configuration) × Reads s g × (kept g ≡ true) × Steps g (begin g turns) a × Still g a × (room < length (a .shown))
 When s n turns room w (suc (suc (suc (suc (suc k))))) = Unit {0}
+
 -- An answer comes where its condition holds, and none before it does.
 pub record Comes (s : List ℕ) (n turns room w : ℕ) (r : Ran) : Type 0 where
   pub here : When s n turns room w (rank r)
@@ -63,6 +65,7 @@ pub record Parts : Type 0 where
   pub same-ahead : Same-end-ahead
   pub confluent : Confluent
   pub crowded : Crowded-alike
+
 -- What a run promises: the answer is right; it is the one that comes, and no other answer is right and comes; the
 -- theorems hold; and `few` comes exactly where the work words are too few.
 pub record GoPost (s : List ℕ) (n turns : ℕ) (o o′ : List ℕ) (w : ℕ) (r : Ran) : Type 0 where

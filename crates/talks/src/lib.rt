@@ -17,6 +17,9 @@ mod runs;
 pub use crate::answers::Judged;
 pub use crate::answers::Ran;
 
+// Spreads seeds that lie close together; the generator wants a state that is not 0.
+const SPREAD: u64 = 0x9e37_79b9_7f4a_7c15;
+
 // Reads and judges; if the words are a program, the map is that of the program.
 fn examine(program: &[u32], map: &mut Map) -> Judged
     ensures says { λ r. ⌜ JudgedSays (now (program .entry)) r ⌝ }
@@ -45,7 +48,14 @@ pub fn judge(program: &[u32]) -> Judged
 }
 
 // Runs in an order, if the words are a program that keeps.
-fn run_in(program: &[u32], most: u32, turns: u32, shown: &mut [u32], work: &mut [u32], order: Order) -> Ran
+fn run_in(
+    program: &[u32],
+    most: u32,
+    turns: u32,
+    shown: &mut [u32],
+    work: &mut [u32],
+    order: Order,
+) -> Ran
     ensures { λ r. ⌜ GoPost (now (program .entry)) most turns (now (shown .entry)) (now (shown .exit)) (length (now (work .entry))) r ⌝ }
 {
     if work.len() < 4096 + 128 * most as usize {
@@ -64,12 +74,39 @@ fn run_in(program: &[u32], most: u32, turns: u32, shown: &mut [u32], work: &mut 
 pub fn go(program: &[u32], most: u32, turns: u32, shown: &mut [u32], work: &mut [u32]) -> Ran
     ensures { λ r. ⌜ GoPost (now (program .entry)) most turns (now (shown .entry)) (now (shown .exit)) (length (now (work .entry))) r ⌝ }
 {
-    run_in(program, most, turns, shown, work, Order { drawn: false, state: 0 })
+    run_in(
+        program,
+        most,
+        turns,
+        shown,
+        work,
+        Order {
+            drawn: false,
+            state: 0,
+        },
+    )
 }
 
 // The same, where each next step is one of a ready process that a small generator draws, from a seed.
-pub fn go_seeded(program: &[u32], most: u32, turns: u32, seed: u64, shown: &mut [u32], work: &mut [u32]) -> Ran
+pub fn go_seeded(
+    program: &[u32],
+    most: u32,
+    turns: u32,
+    seed: u64,
+    shown: &mut [u32],
+    work: &mut [u32],
+) -> Ran
     ensures { λ r. ⌜ GoPost (now (program .entry)) most turns (now (shown .entry)) (now (shown .exit)) (length (now (work .entry))) r ⌝ }
 {
-    run_in(program, most, turns, shown, work, Order { drawn: true, state: seed | 1 })
+    run_in(
+        program,
+        most,
+        turns,
+        shown,
+        work,
+        Order {
+            drawn: true,
+            state: seed.wrapping_mul(SPREAD) | 1,
+        },
+    )
 }

@@ -42,7 +42,15 @@ fn any_spent(processes: &[u32], count: usize) -> bool
 
 // One run from the beginning, in an order. The work words are parted into records of processes, the table of lines, and
 // the ring of those that can go on; what they hold before does not matter.
-pub fn run_once(program: &[u32], map: &Map, most: u32, turns: u32, shown: &mut [u32], work: &mut [u32], order: Order) -> Outcome
+pub fn run_once(
+    program: &[u32],
+    map: &Map,
+    most: u32,
+    turns: u32,
+    shown: &mut [u32],
+    work: &mut [u32],
+    order: Order,
+) -> Outcome
     requires kept { ⌜ Kept (now program) (now map) ⌝ }
     requires room { ⌜ 4096 + 128 * most ≤ length (now work) ⌝ }
     ensures { λ r. ⌜ OnceSays (now (program .entry)) (now (map .entry)) most turns (now (shown .entry)) (now (shown .exit)) r ⌝ }
@@ -53,17 +61,37 @@ pub fn run_once(program: &[u32], map: &Map, most: u32, turns: u32, shown: &mut [
     match set_up(program, map, processes, lines, ready, most, turns, order) {
         Prepared::Crowded => Outcome::Crowded,
         Prepared::Empty => unreachable(),
-        Prepared::Ready(run) => match run_on(program, map, processes, lines, ready, shown, most, run) {
+        Prepared::Ready(run) => match run_on(
+            program,
+            map,
+            processes,
+            lines,
+            ready,
+            shown,
+            most,
+            run,
+        ) {
             Ended::Crowded => Outcome::Crowded,
             Ended::Odd => unreachable(),
-            Ended::Still { count, total } => Outcome::Still { total, spent: any_spent(processes, count) },
+            Ended::Still { count, total } => Outcome::Still {
+                total,
+                spent: any_spent(processes, count),
+            },
         },
     }
 }
 
 // Runs twice: first without room for numbers, which tells how many there are and whether there are too many processes;
 // then, if they fit, with room.
-pub fn run_twice(program: &[u32], map: &Map, most: u32, turns: u32, shown: &mut [u32], work: &mut [u32], order: Order) -> Ran
+pub fn run_twice(
+    program: &[u32],
+    map: &Map,
+    most: u32,
+    turns: u32,
+    shown: &mut [u32],
+    work: &mut [u32],
+    order: Order,
+) -> Ran
     requires kept { ⌜ Kept (now program) (now map) ⌝ }
     requires room { ⌜ 4096 + 128 * most ≤ length (now work) ⌝ }
     ensures says { λ r. ⌜ GoSays (now (program .entry)) most turns (now (shown .entry)) (now (shown .exit)) r ⌝ }

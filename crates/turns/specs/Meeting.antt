@@ -18,15 +18,18 @@ pub record Giving (s : List ℕ) (at value : ℕ) : Type 0 where
   pub is : Some (Give conversation value) ≡ instructionAt s at
   pub starts : value ≡ at + 2
   pub within : value ≤ length s
+
 pub record Choosing (s : List ℕ) (at way next : ℕ) : Type 0 where
   pub conversation : ℕ
   pub is : Some (Choose conversation way next) ≡ instructionAt s at
   pub starts : next ≡ at + 3
   pub within : next ≤ length s
+
 -- all records but i and j are as they were
 pub record Apart (procs procs′ : List ℕ) (i j : ℕ) : Type 0 where
   pub long : length procs′ ≡ length procs
   pub others : (k : ℕ) → (k ≡ i → ⊥) → (k ≡ j → ⊥) → recordAt procs′ k ≡ recordAt procs k
+
 -- the step that processes i and j have taken together
 pub record Meets (s second procs procs′ : List ℕ) (i j : ℕ) (w v : Worker) : Type 0 where
   pub first : Worker
@@ -40,8 +43,9 @@ pub record Meets (s second procs procs′ : List ℕ) (i j : ℕ) (w v : Worker)
   pub second-holds : Holds s second (recordAt procs′ j) second′
   pub first-less : weight (length s) (recordAt procs′ i) < weight (length s) (recordAt procs i)
   pub second-less : weight (length s) (recordAt procs′ j) < weight (length s) (recordAt procs j)
+
 abbrev pub Met : List ℕ → List ℕ → List ℕ → List ℕ → ℕ → ℕ → Bool → Type 0
 Met s second procs procs′ i j true = (i ≡ j → ⊥) → Apart procs procs′ i j ×
-  ((w v : Worker) → Holds s second (recordAt procs i) w → Holds s second (recordAt procs j) v → w .state ≡ running → v .state ≡ running → Meets s second procs procs′ i j w v)
+    ((w v : Worker) → Holds s second (recordAt procs i) w → Holds s second (recordAt procs j) v → w .state ≡ running → v .state ≡ running → Meets s second procs procs′ i j w v)
 Met s second procs procs′ i j false = (procs′ ≡ procs) ×
-  ((w v w′ v′ : Worker) → Holds s second (recordAt procs i) w → Holds s second (recordAt procs j) v → Together w v w′ v′ → ⊥)
+    ((w v w′ v′ : Worker) → Holds s second (recordAt procs i) w → Holds s second (recordAt procs j) v → Together w v w′ v′ → ⊥)

@@ -26,7 +26,15 @@ pub fn stop(p: &[u32], map: &Map, processes: &mut [u32], count: usize, i: u32) -
 }
 
 // The process puts the value at a place into a variable.
-pub fn assign(p: &[u32], map: &Map, processes: &mut [u32], count: usize, i: u32, variable: u32, value: usize) -> Turn
+pub fn assign(
+    p: &[u32],
+    map: &Map,
+    processes: &mut [u32],
+    count: usize,
+    i: u32,
+    variable: u32,
+    value: usize,
+) -> Turn
     requires words { ⌜ length (now p) ≤ 16384 ⌝ }
     requires there { ⌜ i < count ⌝ }
     requires records { ⌜ 64 * count ≤ length (now processes) ⌝ }

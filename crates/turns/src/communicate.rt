@@ -31,7 +31,15 @@ fn park(lines: &mut [u32], e: End, i: u32) -> bool
 }
 
 // A turn of process i, which waits in a conversation.
-pub fn communicate(p: &[u32], map: &Map, processes: &mut [u32], lines: &mut [u32], count: usize, i: u32, conversation: u32) -> Turn
+pub fn communicate(
+    p: &[u32],
+    map: &Map,
+    processes: &mut [u32],
+    lines: &mut [u32],
+    count: usize,
+    i: u32,
+    conversation: u32,
+) -> Turn
     requires words { ⌜ length (now p) ≤ 16384 ⌝ }
     requires there { ⌜ i < count ⌝ }
     requires code { ⌜ count < 2 ^ 32 ⌝ }

@@ -27,8 +27,15 @@ pub fn meet(p: &[u32], map: &Map, processes: &mut [u32], i: usize, j: usize) -> 
     match instruction_at(p, place(processes, i)) {
         None => false,
         Some(one) => match one {
-            Instruction::Give { conversation: _c, value } => give_to(p, processes, i, value, j),
-            Instruction::Choose { conversation: _c, way, next } => choose_at(p, map, processes, i, way, next, j),
+            Instruction::Give {
+                conversation: _c,
+                value,
+            } => give_to(p, processes, i, value, j),
+            Instruction::Choose {
+                conversation: _c,
+                way,
+                next,
+            } => choose_at(p, map, processes, i, way, next, j),
             _ => false,
         },
     }
@@ -45,7 +52,11 @@ fn give_to(p: &[u32], processes: &mut [u32], i: usize, value: usize, j: usize) -
     match instruction_at(p, place(processes, j)) {
         None => false,
         Some(two) => match two {
-            Instruction::Take { conversation: _d, variable, next } => {
+            Instruction::Take {
+                conversation: _d,
+                variable,
+                next,
+            } => {
                 let given = evaluate(p, value, 256, variables(processes, i));
                 set_variable(processes, j, variable, given.value);
                 set_place(processes, j, next as u32);
@@ -58,7 +69,15 @@ fn give_to(p: &[u32], processes: &mut [u32], i: usize, value: usize, j: usize) -
 }
 
 // Chooses a way of the second, if that offers.
-fn choose_at(p: &[u32], map: &Map, processes: &mut [u32], i: usize, way: u32, next: usize, j: usize) -> bool
+fn choose_at(
+    p: &[u32],
+    map: &Map,
+    processes: &mut [u32],
+    i: usize,
+    way: u32,
+    next: usize,
+    j: usize,
+) -> bool
     requires words { ⌜ length (now p) ≤ 16384 ⌝ }
     requires first { ⌜ 64 * i + 64 ≤ length (now processes) ⌝ }
     requires second { ⌜ 64 * j + 64 ≤ length (now processes) ⌝ }
@@ -69,7 +88,10 @@ fn choose_at(p: &[u32], map: &Map, processes: &mut [u32], i: usize, way: u32, ne
     match instruction_at(p, at) {
         None => false,
         Some(two) => match two {
-            Instruction::Offer { conversation: _d, first } => {
+            Instruction::Offer {
+                conversation: _d,
+                first,
+            } => {
                 let to = way_at(map, at, way, first);
                 set_place(processes, i, next as u32);
                 set_place(processes, j, to);

@@ -4,4 +4,5 @@ use Rattle.starting.proofs.heads.process_at.Needs as need
 pub returns : need.returns
 returns c = record {
   is = head-of (c .args .p .now) (c .args .map .now) (c .args .number) (c .process-of .result) (c .process-of .ensures .is);
-  within = head-within (c .args .p .now) (c .process-of .result) (c .process-of .ensures .within) }
+  within = head-within (c .args .p .now) (c .process-of .result) (c .process-of .ensures .within);
+}

@@ -74,17 +74,11 @@ fn run_in(
 pub fn go(program: &[u32], most: u32, turns: u32, shown: &mut [u32], work: &mut [u32]) -> Ran
     ensures { λ r. ⌜ GoPost (now (program .entry)) most turns (now (shown .entry)) (now (shown .exit)) (length (now (work .entry))) r ⌝ }
 {
-    run_in(
-        program,
-        most,
-        turns,
-        shown,
-        work,
-        Order {
-            drawn: false,
-            state: 0,
-        },
-    )
+    let fixed = Order {
+        drawn: false,
+        state: 0,
+    };
+    run_in(program, most, turns, shown, work, fixed)
 }
 
 // The same, where each next step is one of a ready process that a small generator draws, from a seed.
@@ -98,15 +92,9 @@ pub fn go_seeded(
 ) -> Ran
     ensures { λ r. ⌜ GoPost (now (program .entry)) most turns (now (shown .entry)) (now (shown .exit)) (length (now (work .entry))) r ⌝ }
 {
-    run_in(
-        program,
-        most,
-        turns,
-        shown,
-        work,
-        Order {
-            drawn: true,
-            state: seed.wrapping_mul(SPREAD) | 1,
-        },
-    )
+    let drawn = Order {
+        drawn: true,
+        state: seed.wrapping_mul(SPREAD) | 1,
+    };
+    run_in(program, most, turns, shown, work, drawn)
 }

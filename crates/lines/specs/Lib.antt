@@ -1,0 +1,2 @@
+-- How a line of decimal words is read.
+pub mod Reading

@@ -1,0 +1,2 @@
+-- What is promised of a printed text.
+pub mod EndsLine

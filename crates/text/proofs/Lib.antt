@@ -1,0 +1,2 @@
+-- Facts on the reading of a text.
+pub mod Bytes

@@ -65,7 +65,7 @@ pub fn act(
                 variable,
                 value,
             ),
-            Instruction::If { test } => fork(p, map, processes, count, i, test),
+            Instruction::If { condition } => fork(p, map, processes, count, i, condition),
             Instruction::Show { value } => show(p, map, processes, count, i, value),
             Instruction::Start { call } => start(p, map, processes, most, count, i, call),
             Instruction::Become { call } => turn_into(p, map, processes, most, count, i, call),

@@ -162,15 +162,15 @@ pub fn look_at_if(
     p: &[u32],
     map: &Map,
     conversations: &Conversations,
-    test: usize,
+    condition: usize,
     depth: u32,
     variables: u32,
     root: bool,
 ) -> Course
-    ensures behind { λ r. ⌜ CourseFrom (now (p .entry)) test r ⌝ }
-    ensures says { λ r. ⌜ IfSays (now (p .entry)) (now (map .entry)) test depth variables root (stand (now (conversations .entry))) r ⌝ }
+    ensures behind { λ r. ⌜ CourseFrom (now (p .entry)) condition r ⌝ }
+    ensures says { λ r. ⌜ IfSays (now (p .entry)) (now (map .entry)) condition depth variables root (stand (now (conversations .entry))) r ⌝ }
 {
-    match variables_there(p, test, depth, variables) {
+    match variables_there(p, condition, depth, variables) {
         None => Course::Careless,
         Some(first) => Course::Parted(first, *conversations, *conversations),
     }

@@ -110,11 +110,11 @@ fn follow(
                 variables,
                 root,
             ),
-            Instruction::If { test } => look_at_if(
+            Instruction::If { condition } => look_at_if(
                 p,
                 map,
                 conversations,
-                test,
+                condition,
                 depth,
                 variables,
                 root,

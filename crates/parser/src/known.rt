@@ -81,7 +81,7 @@ impl<'a> Known<'a> {
 }
 
 impl<'a> Scope<'a> {
-    // The number of a conversation by its name; the latest of that name.
+    // The number of a conversation by its name; the last of that name.
     pub fn talk(&self, name: &str) -> Option<u32> {
         let mut i = 0u32;
         for t in self.talks.iter() {

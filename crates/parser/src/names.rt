@@ -54,9 +54,9 @@ fn same_back(a: &[u8], b: &[u8]) -> usize {
 pub fn is_close(a: &str, b: &str) -> bool {
     let (a, b) = (a.as_bytes(), b.as_bytes());
     let longest = a.len().max(b.len());
-    let shortest = a.len().min(b.len());
+    let shorter = a.len().min(b.len());
     let same = same_front(a, b).saturating_add(same_back(a, b));
-    same > 0 && longest.saturating_sub(same) <= 2 && longest.saturating_sub(shortest) <= 2
+    same > 0 && longest.saturating_sub(same) <= 2 && longest.saturating_sub(shorter) <= 2
 }
 
 // A name of the list that is close to a word that is not in it.

@@ -54,7 +54,7 @@ fn advance(p: &[u32], at: usize, depth: u32, room: u32) -> Pass
                 None => Pass::Fault,
                 Some(next) => Pass::On(next, room),
             },
-            Instruction::If { test } => match expression_end(p, test, depth) {
+            Instruction::If { condition } => match expression_end(p, condition, depth) {
                 None => Pass::Fault,
                 Some(first) => Pass::Fork(first),
             },

@@ -32,7 +32,7 @@ pub enum Instruction {
         value: usize,
     },
     If {
-        test: usize,
+        condition: usize,
     },
     Show {
         value: usize,
@@ -126,7 +126,7 @@ pub fn instruction_at(p: &[u32], at: usize) -> Option<Instruction>
             variable: p[at + 1],
             value: at + 2,
         }),
-        6 => Some(Instruction::If { test: at + 1 }),
+        6 => Some(Instruction::If { condition: at + 1 }),
         7 => Some(Instruction::Show { value: at + 1 }),
         8 => match call_at(p, at) {
             Some(call) => Some(Instruction::Start { call }),

@@ -48,14 +48,14 @@ pub fn assign(
 }
 
 // The process takes its second way if the value at a place is 0, else its first.
-pub fn fork(p: &[u32], map: &Map, processes: &mut [u32], count: usize, i: u32, test: usize) -> Turn
+pub fn fork(p: &[u32], map: &Map, processes: &mut [u32], count: usize, i: u32, condition: usize) -> Turn
     requires words { ⌜ length (now p) ≤ 16384 ⌝ }
     requires there { ⌜ i < count ⌝ }
     requires records { ⌜ 64 * count ≤ length (now processes) ⌝ }
-    requires doing { ⌜ Doing (now p) (now processes) i (If test) ⌝ }
+    requires doing { ⌜ Doing (now p) (now processes) i (If condition) ⌝ }
     ensures { λ r. ⌜ Acts (now (p .entry)) (now (map .entry)) (now (processes .entry)) (now (processes .exit)) count i r ⌝ }
 {
-    let given = evaluate(p, test, 256, variables(processes, i as usize));
+    let given = evaluate(p, condition, 256, variables(processes, i as usize));
     if given.value == 0 {
         let at = place(processes, i as usize);
         set_place(processes, i as usize, map.second[at] as u32);

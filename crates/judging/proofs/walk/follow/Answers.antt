@@ -45,8 +45,8 @@ returns-in-Set c = record {
 
 pub returns-in-If : need.returns-in-If
 returns-in-If c = record {
-  behind = look-behind (c .args .p .now) (c .args .at) (c .in-Some .instruction) (If (c .in-If .test)) (c .look-at-if .result) (c .in-Some .ensures tt .words) (c .in-If .is) (c .look-at-if .ensures .behind);
-  says = follow-if (c .args .p .now) (c .args .map .now) (c .args .at) (c .args .depth) (c .args .variables) (c .args .root) (stand (c .args .conversations .now)) (c .in-Some .instruction) (c .in-Some .ensures tt .is) (c .look-at-if .result) (c .in-If .test) (c .in-If .is) (c .look-at-if .ensures .says);
+  behind = look-behind (c .args .p .now) (c .args .at) (c .in-Some .instruction) (If (c .in-If .condition)) (c .look-at-if .result) (c .in-Some .ensures tt .words) (c .in-If .is) (c .look-at-if .ensures .behind);
+  says = follow-if (c .args .p .now) (c .args .map .now) (c .args .at) (c .args .depth) (c .args .variables) (c .args .root) (stand (c .args .conversations .now)) (c .in-Some .instruction) (c .in-Some .ensures tt .is) (c .look-at-if .result) (c .in-If .condition) (c .in-If .is) (c .look-at-if .ensures .says);
 }
 
 pub returns-in-Show : need.returns-in-Show

@@ -30,10 +30,10 @@ pub returns-in-Some-expression-end-2 : need.returns-in-Some-expression-end-2
 returns-in-Some-expression-end-2 c = set-leads (c .args .p .now) (c .args .at) (c .args .depth) (c .args .room) (c .in-Some .instruction) (c .in-Some .ensures tt .is) (c .in-Some .ensures tt .words) (c .in-Set .-x) (c .in-Set .value) (c .in-Some-expression-end-2 .next) (c .in-Set .is) (c .in-Some-expression-end-2 .ensures tt)
 
 pub returns-in-None-expression-end-3 : need.returns-in-None-expression-end-3
-returns-in-None-expression-end-3 c = if-none (c .args .p .now) (c .args .at) (c .args .depth) (c .args .room) (c .in-Some .instruction) (c .in-Some .ensures tt .is) (c .in-Some .ensures tt .words) (c .in-If .test) (c .in-If .is) (c .in-None-expression-end-3 .ensures tt)
+returns-in-None-expression-end-3 c = if-none (c .args .p .now) (c .args .at) (c .args .depth) (c .args .room) (c .in-Some .instruction) (c .in-Some .ensures tt .is) (c .in-Some .ensures tt .words) (c .in-If .condition) (c .in-If .is) (c .in-None-expression-end-3 .ensures tt)
 
 pub returns-in-Some-expression-end-3 : need.returns-in-Some-expression-end-3
-returns-in-Some-expression-end-3 c = if-parts (c .args .p .now) (c .args .at) (c .args .depth) (c .args .room) (c .in-Some .instruction) (c .in-Some .ensures tt .is) (c .in-Some .ensures tt .words) (c .in-If .test) (c .in-Some-expression-end-3 .first) (c .in-If .is) (c .in-Some-expression-end-3 .ensures tt)
+returns-in-Some-expression-end-3 c = if-parts (c .args .p .now) (c .args .at) (c .args .depth) (c .args .room) (c .in-Some .instruction) (c .in-Some .ensures tt .is) (c .in-Some .ensures tt .words) (c .in-If .condition) (c .in-Some-expression-end-3 .first) (c .in-If .is) (c .in-Some-expression-end-3 .ensures tt)
 
 pub returns-in-None-expression-end-4 : need.returns-in-None-expression-end-4
 returns-in-None-expression-end-4 c = show-none (c .args .p .now) (c .args .at) (c .args .depth) (c .args .room) (c .in-Some .instruction) (c .in-Some .ensures tt .is) (c .in-Some .ensures tt .words) (c .in-Show .value) (c .in-Show .is) (c .in-None-expression-end-4 .ensures tt)

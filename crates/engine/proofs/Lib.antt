@@ -5,3 +5,4 @@ pub mod ShownLaws
 pub mod RunLaws
 pub mod EndingLaws
 pub mod SettingLaws
+pub mod WholeLaws

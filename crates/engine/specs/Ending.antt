@@ -40,13 +40,11 @@ pub record Finished (s second : List ℕ) (g : Program) (most : ℕ) (old procs 
   pub few : count ≤ most
   pub written : shown ≡ overlay (now .shown) old
   pub total-is : total ≡ counted (now .shown)
-
 -- some steps lead to more processes than so many
 pub record TooMany (g : Program) (most : ℕ) (a : Configuration) : Type 0 where
   pub now : Configuration
   pub steps : Steps g a now
   pub many : most < length (now .workers)
-
 -- some steps lead to what does not happen where a program keeps to its conversations
 pub record Strange (g : Program) (a : Configuration) : Type 0 where
   pub now : Configuration
@@ -57,8 +55,12 @@ abbrev pub Ending : List ℕ → List ℕ → Program → ℕ → List ℕ → L
 Ending s second g most old procs shown a (Ended-still count total) = Finished s second g most old procs shown count total a
 Ending s second g most old procs shown a Crowded = TooMany g most a
 Ending s second g most old procs shown a Odd = Strange g a
-
 -- for every program that the words are the writing of, and every configuration that they hold at first
 abbrev pub Endings : List ℕ → Map → ℕ → List ℕ → List ℕ → List ℕ → List ℕ → List ℕ → List ℕ → Run → Ended → Type 0
 Endings s m most procs lines ready shown procs′ shown′ r e =
-    (g : Program) (a : Configuration) (old : List ℕ) → Reads s g → Mapped s g m → Running s (m .second) g old procs lines ready shown r a → Ending s (m .second) g most old procs′ shown′ a e
+  (g : Program) (a : Configuration) (old : List ℕ) → Reads s g → Mapped s g m → Running s (m .second) g old procs lines ready shown r a → Ending s (m .second) g most old procs′ shown′ a e
+-- as many processes as there may be
+abbrev pub Fitting : ℕ → Ended → Type 0
+Fitting most (Ended-still count total) = count ≤ most
+Fitting most Crowded = Unit {0}
+Fitting most Odd = Unit {0}

@@ -2,3 +2,5 @@
 pub mod Running
 pub mod Ending
 pub mod Setting
+pub mod Outs
+pub mod Whole

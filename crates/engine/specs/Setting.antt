@@ -16,6 +16,6 @@ use Rattle.engine.specs.Running.{Room, Running}
 -- is no room for the first process; or there is no first process
 abbrev pub SetUp : List ℕ → Map → ℕ → ℕ → List ℕ → List ℕ → List ℕ → Prepared → Type 0
 SetUp s m most turns procs lines ready (Ready r) = Room most procs lines ready r ×
-    ((g : Program) (shown : List ℕ) → Reads s g → Mapped s g m → Running s (m .second) g shown procs lines ready shown r (begin g turns))
+  ((g : Program) (shown : List ℕ) → Reads s g → Mapped s g m → Running s (m .second) g shown procs lines ready shown r (begin g turns))
 SetUp s m most turns procs lines ready Crowded = (g : Program) → Reads s g → Mapped s g m → most < length (begin g turns .workers)
 SetUp s m most turns procs lines ready Empty = (g : Program) → Reads s g → Mapped s g m → begin g turns .workers ≡ []

@@ -17,15 +17,7 @@ use turns::communicate::communicate;
 use turns::turn::Turn;
 
 // A turn of process i, of so many, where there may be `most`.
-pub fn act(
-    p: &[u32],
-    map: &Map,
-    processes: &mut [u32],
-    lines: &mut [u32],
-    most: usize,
-    count: usize,
-    i: u32,
-) -> Turn
+pub fn act(p: &[u32], map: &Map, processes: &mut [u32], lines: &mut [u32], most: usize, count: usize, i: u32) -> Turn
     requires words { ⌜ length (now p) ≤ 16384 ⌝ }
     requires there { ⌜ i < count ⌝ }
     requires fits { ⌜ count ≤ most ⌝ }
@@ -38,33 +30,11 @@ pub fn act(
         None => Turn::Off,
         Some(what) => match what {
             Instruction::Stop => stop(p, map, processes, count, i),
-            Instruction::Give {
-                conversation,
-                value: _v,
-            } => communicate(p, map, processes, lines, count, i, conversation),
-            Instruction::Take {
-                conversation,
-                variable: _x,
-                next: _n,
-            } => communicate(p, map, processes, lines, count, i, conversation),
-            Instruction::Choose {
-                conversation,
-                way: _w,
-                next: _n,
-            } => communicate(p, map, processes, lines, count, i, conversation),
-            Instruction::Offer {
-                conversation,
-                first: _f,
-            } => communicate(p, map, processes, lines, count, i, conversation),
-            Instruction::Set { variable, value } => assign(
-                p,
-                map,
-                processes,
-                count,
-                i,
-                variable,
-                value,
-            ),
+            Instruction::Give { conversation, value: _v } => communicate(p, map, processes, lines, count, what, i, conversation),
+            Instruction::Take { conversation, variable: _x, next: _n } => communicate(p, map, processes, lines, count, what, i, conversation),
+            Instruction::Choose { conversation, way: _w, next: _n } => communicate(p, map, processes, lines, count, what, i, conversation),
+            Instruction::Offer { conversation, first: _f } => communicate(p, map, processes, lines, count, what, i, conversation),
+            Instruction::Set { variable, value } => assign(p, map, processes, count, i, variable, value),
             Instruction::If { condition } => fork(p, map, processes, count, i, condition),
             Instruction::Show { value } => show(p, map, processes, count, i, value),
             Instruction::Start { call } => start(p, map, processes, most, count, i, call),

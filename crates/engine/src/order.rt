@@ -24,14 +24,6 @@ pub fn draw_place(order: Order, count: usize) -> Draw
     if !order.drawn {
         return Draw { place: 0, order };
     }
-    let a = order.state ^ (order.state << 13);
-    let b = a ^ (a >> 7);
-    let c = b ^ (b << 17);
-    Draw {
-        place: (c % count as u64) as usize,
-        order: Order {
-            drawn: true,
-            state: c,
-        },
-    }
+    let state = order.state.wrapping_mul(6364136223846793005).wrapping_add(1442695040888963407);
+    Draw { place: ((state >> 16) % count as u64) as usize, order: Order { drawn: true, state } }
 }

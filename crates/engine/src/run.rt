@@ -7,7 +7,7 @@ ghost use mathlib.Core.Path.{_≡_};
 ghost use Prim.Native.Nat.{_+_, _*_, _≤_, _<_, _^_};
 ghost use lib.ListN.{length};
 ghost use Rattle.engine.specs.Running.{Room};
-ghost use Rattle.engine.specs.Ending.{Held, Endings};
+ghost use Rattle.engine.specs.Ending.{Held, Endings, Fitting};
 use crate::step::Run;
 use crate::step::Stepped;
 use crate::step::step;
@@ -23,20 +23,12 @@ pub enum Ended {
 }
 
 // Runs from where the words stand.
-pub fn run_on(
-    p: &[u32],
-    map: &Map,
-    processes: &mut [u32],
-    lines: &mut [u32],
-    ready: &mut [u32],
-    shown: &mut [u32],
-    most: usize,
-    from: Run,
-) -> Ended
+pub fn run_on(p: &[u32], map: &Map, processes: &mut [u32], lines: &mut [u32], ready: &mut [u32], shown: &mut [u32], most: usize, from: Run) -> Ended
     requires words { ⌜ length (now p) ≤ 16384 ⌝ }
     requires room { ⌜ Room most (now processes) (now lines) (now ready) from ⌝ }
     requires held { ⌜ Held (now p) (now map) (now processes) (now lines) (now ready) (now shown) from ⌝ }
-    ensures { λ r. ⌜ Endings (now (p .entry)) (now (map .entry)) most (now (processes .entry)) (now (lines .entry)) (now (ready .entry)) (now (shown .entry)) (now (processes .exit)) (now (shown .exit)) from r ⌝ }
+    ensures ends { λ r. ⌜ Endings (now (p .entry)) (now (map .entry)) most (now (processes .entry)) (now (lines .entry)) (now (ready .entry)) (now (shown .entry)) (now (processes .exit)) (now (shown .exit)) from r ⌝ }
+    ensures fits { λ r. ⌜ Fitting most r ⌝ }
 {
     let mut now = from;
     'turns: while now.ring.count > 0 {
@@ -46,8 +38,5 @@ pub fn run_on(
             Stepped::Odd => return Ended::Odd,
         }
     }
-    Ended::Still {
-        count: now.count,
-        total: now.total,
-    }
+    Ended::Still { count: now.count, total: now.total }
 }

@@ -30,16 +30,7 @@ fn clear(lines: &mut [u32])
 }
 
 // The first process begins with so many turns; whatever was in the words does not matter.
-pub fn set_up(
-    p: &[u32],
-    map: &Map,
-    processes: &mut [u32],
-    lines: &mut [u32],
-    ready: &mut [u32],
-    most: usize,
-    turns: u32,
-    order: Order,
-) -> Prepared
+pub fn set_up(p: &[u32], map: &Map, processes: &mut [u32], lines: &mut [u32], ready: &mut [u32], most: usize, turns: u32, order: Order) -> Prepared
     requires words { ⌜ length (now p) ≤ 16384 ⌝ }
     requires code { ⌜ most < 2 ^ 32 ⌝ }
     requires records { ⌜ 64 * most ≤ length (now processes) ⌝ }
@@ -59,26 +50,9 @@ pub fn set_up(
             clear(lines);
             ready[0] = 0;
             let ends = Ends { ends: [None; 16] };
-            let numbers = Numbers {
-                values: [0; 16],
-                next: 0,
-            };
-            begin(
-                processes,
-                0,
-                head.body as u32,
-                turns,
-                &ends,
-                0,
-                &numbers,
-                head.variables as usize,
-            );
-            Prepared::Ready(Run {
-                ring: Ring { head: 0, count: 1 },
-                count: 1,
-                total: 0,
-                order,
-            })
+            let numbers = Numbers { values: [0; 16], next: 0 };
+            begin(processes, 0, head.body as u32, turns, &ends, 0, &numbers, head.variables as usize);
+            Prepared::Ready(Run { ring: Ring { head: 0, count: 1 }, count: 1, total: 0, order })
         }
     }
 }

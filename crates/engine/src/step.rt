@@ -46,16 +46,7 @@ fn write_down(shown: &mut [u32], total: usize, value: u32) -> usize
 }
 
 // One turn of the run, of the process that is next in its order.
-pub fn step(
-    p: &[u32],
-    map: &Map,
-    processes: &mut [u32],
-    lines: &mut [u32],
-    ready: &mut [u32],
-    shown: &mut [u32],
-    most: usize,
-    run: Run,
-) -> Stepped
+pub fn step(p: &[u32], map: &Map, processes: &mut [u32], lines: &mut [u32], ready: &mut [u32], shown: &mut [u32], most: usize, run: Run) -> Stepped
     requires words { ⌜ length (now p) ≤ 16384 ⌝ }
     requires room { ⌜ Room most (now processes) (now lines) (now ready) run ⌝ }
     requires some { ⌜ 0 < run .ring .count ⌝ }
@@ -71,30 +62,15 @@ pub fn step(
     match act(p, map, processes, lines, most, run.count, i) {
         Turn::On => {
             let ring = push(ready, taken.ring, i);
-            Stepped::Go(Run {
-                ring,
-                count: run.count,
-                total: run.total,
-                order,
-            })
+            Stepped::Go(Run { ring, count: run.count, total: run.total, order })
         }
         Turn::Shown(value) => {
             let ring = push(ready, taken.ring, i);
             if i == 0 {
                 let total = write_down(shown, run.total, value);
-                return Stepped::Go(Run {
-                    ring,
-                    count: run.count,
-                    total,
-                    order,
-                });
+                return Stepped::Go(Run { ring, count: run.count, total, order });
             }
-            Stepped::Go(Run {
-                ring,
-                count: run.count,
-                total: run.total,
-                order,
-            })
+            Stepped::Go(Run { ring, count: run.count, total: run.total, order })
         }
         Turn::Both(j) => {
             let first = push(ready, taken.ring, i);
@@ -102,12 +78,7 @@ pub fn step(
                 return Stepped::Odd;
             }
             let ring = push(ready, first, j);
-            Stepped::Go(Run {
-                ring,
-                count: run.count,
-                total: run.total,
-                order,
-            })
+            Stepped::Go(Run { ring, count: run.count, total: run.total, order })
         }
         Turn::Started => {
             let first = push(ready, taken.ring, i);
@@ -118,19 +89,9 @@ pub fn step(
                 return Stepped::Odd;
             }
             let ring = push(ready, first, run.count as u32);
-            Stepped::Go(Run {
-                ring,
-                count: run.count + 1,
-                total: run.total,
-                order,
-            })
+            Stepped::Go(Run { ring, count: run.count + 1, total: run.total, order })
         }
-        Turn::Off => Stepped::Go(Run {
-            ring: taken.ring,
-            count: run.count,
-            total: run.total,
-            order,
-        }),
+        Turn::Off => Stepped::Go(Run { ring: taken.ring, count: run.count, total: run.total, order }),
         Turn::Crowded => Stepped::Crowded,
         Turn::Odd => Stepped::Odd,
     }

@@ -19,18 +19,15 @@ pub record NumbersAre (s vs : List ℕ) (at : ℕ) (es : List Expression) (x : L
   pub padded : (m : ℕ) → pad m (values vs es) ≡ table (λ k. getD (r .values) k 0) 0 (max (length es) m)
   pub rest : drop (r .next) s ≡ x
   pub ends : r .next ≡ at + length (rowEs es)
-
 abbrev pub Numbered : List ℕ → List ℕ → ℕ → ℕ → ℕ → Numbers → Type 0
 Numbered s vs at d n r = (es : List Expression) (x : List ℕ) → length es ≡ n → drop at s ≡ rowEs es ++ x → deepEs es ≤ d → NumbersAre s vs at es x r
 
 -- n words from a place on
 abbrev pub listed : List ℕ → ℕ → ℕ → List ℕ
 listed s at n = table (λ k. getD s (at + k) 0) 0 n
-
 -- the first n of the ends that are handed on
 abbrev pub ends-in : Ends → ℕ → List (Option Endpoint)
 ends-in r n = table (λ k. viewed (getD (r .ends) k None)) 0 n
-
 -- the first n of the numbers that are handed on
 abbrev pub numbers-in : Numbers → ℕ → List ℕ
 numbers-in r n = table (λ k. getD (r .values) k 0) 0 n
@@ -38,9 +35,7 @@ numbers-in r n = table (λ k. getD (r .values) k 0) 0 n
 -- a record with more ends, with more variables, and without the conversations cs
 abbrev pub with-ends : Record → List (Option Endpoint) → Record
 with-ends r es = record { place = r .place; left = r .left; state = r .state; vars = r .vars; ends = r .ends ++ es }
-
 abbrev pub with-numbers : Record → List ℕ → Record
 with-numbers r ns = record { place = r .place; left = r .left; state = r .state; vars = r .vars ++ ns; ends = r .ends }
-
 abbrev pub taken-from : Record → List ℕ → Record
 taken-from r cs = record { place = r .place; left = r .left; state = r .state; vars = r .vars; ends = without (r .ends) cs }

@@ -16,7 +16,6 @@ applied Sum a b = (a + b) % 2 ^ 32
 applied Difference a b = (a + 2 ^ 32 - b) % 2 ^ 32
 applied Product a b = a * b % 2 ^ 32
 applied Less a b = bit (ltb a b)
-
 -- the element at a place, 0 where there is none
 abbrev pub at-or-0 : List ℕ → ℕ → ℕ
 at-or-0 vs x = or 0 (nth vs x)
@@ -26,6 +25,5 @@ pub record Evaluated (s vs : List ℕ) (at : ℕ) (e : Expression) (x : List ℕ
   pub value : r .value ≡ value vs e
   pub rest : drop (r .next) s ≡ x
   pub ends : r .next ≡ at + length (rowE e)
-
 abbrev pub Evaluates : List ℕ → List ℕ → ℕ → ℕ → Valued → Type 0
 Evaluates s vs at d r = (e : Expression) (x : List ℕ) → drop at s ≡ rowE e ++ x → deepE e ≤ d → Evaluated s vs at e x r

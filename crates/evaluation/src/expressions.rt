@@ -53,21 +53,12 @@ pub fn evaluate(p: &[u32], at: usize, depth: u32, vars: &[u32]) -> Valued
     match term_at(p, at) {
         None => Valued { value: 0, next: at },
         Some(term) => match term {
-            Term::Number(n) => Valued {
-                value: n,
-                next: at + 2,
-            },
-            Term::Variable(x) => Valued {
-                value: variable(vars, x),
-                next: at + 2,
-            },
+            Term::Number(n) => Valued { value: n, next: at + 2 },
+            Term::Variable(x) => Valued { value: variable(vars, x), next: at + 2 },
             Term::Pair { operator, first } => {
                 let a = evaluate(p, first, depth - 1, vars);
                 let b = evaluate(p, a.next, depth - 1, vars);
-                Valued {
-                    value: apply(operator, a.value, b.value),
-                    next: b.next,
-                }
+                Valued { value: apply(operator, a.value, b.value), next: b.next }
             }
         },
     }

@@ -12,10 +12,7 @@ use records::process::End;
 pub fn facing_end(e: End) -> End
     ensures { λ r. ⌜ endpoint r ≡ facing (endpoint e) ⌝ }
 {
-    End {
-        line: e.line,
-        far: !e.far,
-    }
+    End { line: e.line, far: !e.far }
 }
 
 // Where the word of an end stands.

@@ -38,10 +38,7 @@ pub fn push(words: &mut [u32], ring: Ring, who: u32) -> Ring
 {
     let at = slot_after(words.len(), ring.head, ring.count);
     words[at] = who;
-    Ring {
-        head: ring.head,
-        count: ring.count + 1,
-    }
+    Ring { head: ring.head, count: ring.count + 1 }
 }
 
 // Takes out the one at a place of the queue, the first for 0.
@@ -55,11 +52,5 @@ pub fn take(words: &mut [u32], ring: Ring, place: usize) -> Taken
     let who = words[at];
     words[at] = words[ring.head];
     let head = slot_after(slots, ring.head, 1);
-    Taken {
-        who,
-        ring: Ring {
-            head,
-            count: ring.count - 1,
-        },
-    }
+    Taken { who, ring: Ring { head, count: ring.count - 1 } }
 }

@@ -28,22 +28,17 @@ pub record Record : Type 0 where
 -- word k of record i
 abbrev pub word : List ℕ → ℕ → ℕ → ℕ
 word s i k = getD s (64 * i + k) 0
-
 -- a state by its code
 abbrev pub stateOf : ℕ → State
 stateOf n = cond (eqb n 0) running (cond (eqb n 1) stopped spent)
-
 -- an end by its line and its code: 0 where there is no end, 1 for side 0, else side 1
 abbrev pub endOf : ℕ → ℕ → Option Endpoint
 endOf l s = cond (eqb s 0) none (some (record { line = l; side = cond (eqb s 1) 0 1 }))
-
 -- variables and ends of record i, at most sixteen
 abbrev pub varsAt : List ℕ → ℕ → List ℕ
 varsAt s i = table (λ k. word s i (16 + k)) 0 (min (word s i 4) 16)
-
 abbrev pub endsAt : List ℕ → ℕ → List (Option Endpoint)
 endsAt s i = table (λ k. endOf (word s i (32 + k)) (word s i (48 + k))) 0 (min (word s i 5) 16)
-
 -- record i
 abbrev pub recordAt : List ℕ → ℕ → Record
 recordAt s i = record { place = word s i 1; left = word s i 2; state = stateOf (word s i 3); vars = varsAt s i; ends = endsAt s i }
@@ -57,36 +52,27 @@ pub record Kept (s s′ : List ℕ) (i : ℕ) (r : Record) : Type 0 where
 -- a record with one field changed
 abbrev pub moved : Record → ℕ → Record
 moved r p = record { place = p; left = r .left; state = r .state; vars = r .vars; ends = r .ends }
-
 abbrev pub assigned : Record → ℕ → ℕ → Record
 assigned r x v = record { place = r .place; left = r .left; state = r .state; vars = put (r .vars) x v; ends = r .ends }
-
 abbrev pub ended : Record → State → Record
 ended r k = record { place = r .place; left = r .left; state = k; vars = r .vars; ends = r .ends }
-
 abbrev pub cleared : Record → ℕ → Record
 cleared r c = record { place = r .place; left = r .left; state = r .state; vars = r .vars; ends = put (r .ends) c none }
-
 abbrev pub spends : Record → ℕ → Record
 spends r l = record { place = r .place; left = l; state = r .state; vars = r .vars; ends = r .ends }
-
 abbrev pub begins : ℕ → ℕ → Record
 begins p l = record { place = p; left = l; state = running; vars = []; ends = [] }
-
 abbrev pub with-end : Record → Option Endpoint → Record
 with-end r e = record { place = r .place; left = r .left; state = r .state; vars = r .vars; ends = r .ends ++ (e ∷ []) }
-
 abbrev pub with-number : Record → ℕ → Record
 with-number r v = record { place = r .place; left = r .left; state = r .state; vars = r .vars ++ (v ∷ []); ends = r .ends }
 
 -- the ends and states of the code as those of the model
 abbrev pub endpoint : End → Endpoint
 endpoint e = record { line = e .line; side = bit (e .far) }
-
 abbrev pub viewed : Maybe End → Option Endpoint
 viewed None = none
 viewed (Some e) = some (endpoint e)
-
 abbrev pub state-is : Standing → State
 state-is Running = running
 state-is Stopped = stopped

@@ -117,10 +117,7 @@ pub fn end_at(words: &[u32], i: usize, conversation: u32) -> Option<End>
     if code == 0 {
         return None;
     }
-    Some(End {
-        line,
-        far: code != 1,
-    })
+    Some(End { line, far: code != 1 })
 }
 
 // How many conversations a process has, handed on or not.

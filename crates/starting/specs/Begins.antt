@@ -11,4 +11,4 @@ use Rattle.turns.specs.Turning.{Before, Turned}
 
 abbrev pub Begins : List ℕ → Map → List ℕ → List ℕ → ℕ → ℕ → ℕ → Turn → Type 0
 Begins s m procs procs′ most count i t =
-    (lines : List ℕ) (g : Program) (a : Configuration) (q : List ℕ) → Reads s g → Mapped s g m → Before s (m .second) g procs lines count i a q → Turned s (m .second) g procs procs′ lines most count i a q t
+  (lines : List ℕ) (g : Program) (a : Configuration) (q : List ℕ) → Reads s g → Mapped s g m → Before s (m .second) g procs lines count i a q → Turned s (m .second) g procs procs′ lines most count i a q t

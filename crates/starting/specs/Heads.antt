@@ -23,6 +23,5 @@ pub record HeadIs (s second : List ℕ) (g : Program) (f : ℕ) (h : Head) : Typ
   pub vars : h .variables ≡ process .vars
   pub few : process .vars ≤ 16
   pub nested : deep (process .body) ≤ 256
-
 abbrev pub HeadOf : List ℕ → Map → ℕ → Option Head → Type 0
 HeadOf s m f r = (g : Program) → Reads s g → Mapped s g m → Cases r (nth (g .procs) f ≡ none) (HeadIs s (m .second) g f)

@@ -20,16 +20,7 @@ use records::process::set_place;
 use records::process::set_turns;
 
 // A process begins, with the first so many of some ends and of some numbers.
-pub fn begin(
-    words: &mut [u32],
-    j: usize,
-    body: u32,
-    left: u32,
-    ends: &Ends,
-    conversations: usize,
-    numbers: &Numbers,
-    variables: usize,
-)
+pub fn begin(words: &mut [u32], j: usize, body: u32, left: u32, ends: &Ends, conversations: usize, numbers: &Numbers, variables: usize)
     requires room { ⌜ 64 * j + 64 ≤ length (now words) ⌝ }
     requires ends { ⌜ conversations ≤ 16 ⌝ }
     requires vars { ⌜ variables ≤ 16 ⌝ }
@@ -41,17 +32,7 @@ pub fn begin(
 }
 
 // A started process begins: its first end is that of the line to its starter.
-pub fn begin_started(
-    words: &mut [u32],
-    j: usize,
-    body: u32,
-    left: u32,
-    line: u32,
-    ends: &Ends,
-    conversations: usize,
-    numbers: &Numbers,
-    variables: usize,
-)
+pub fn begin_started(words: &mut [u32], j: usize, body: u32, left: u32, line: u32, ends: &Ends, conversations: usize, numbers: &Numbers, variables: usize)
     requires room { ⌜ 64 * j + 64 ≤ length (now words) ⌝ }
     requires ends { ⌜ conversations ≤ 15 ⌝ }
     requires vars { ⌜ variables ≤ 16 ⌝ }
@@ -64,16 +45,7 @@ pub fn begin_started(
 }
 
 // The starter goes on, without what it handed on and with its end of the new line.
-pub fn release(
-    p: &[u32],
-    at: usize,
-    conversations: usize,
-    words: &mut [u32],
-    i: usize,
-    line: u32,
-    left: u32,
-    next: u32,
-)
+pub fn release(p: &[u32], at: usize, conversations: usize, words: &mut [u32], i: usize, line: u32, left: u32, next: u32)
     requires there { ⌜ at + conversations ≤ length (now p) ⌝ }
     requires room { ⌜ 64 * i + 64 ≤ length (now words) ⌝ }
     requires few { ⌜ length (recordAt (now words) i .ends) < 16 ⌝ }

@@ -3,7 +3,7 @@ ghost use mathlib.Core.Path.{_≡_};
 ghost use Prim.Native.Nat.{_+_, _-_, _*_, _≤_, _<_, _^_};
 ghost use lib.ListN.{length};
 ghost use Rattle.rows.specs.declared.decode.Instruction.the-variants.{Start, Become};
-ghost use Rattle.turns.specs.Turning.{Doing};
+ghost use Rattle.turns.specs.Meeting.{Doing};
 ghost use Rattle.starting.specs.Begins.{Begins};
 use crate::begin::begin;
 use crate::begin::begin_started;
@@ -21,15 +21,7 @@ use rows::map::Map;
 use turns::turn::Turn;
 
 // The process starts another, on a new line.
-pub fn start(
-    p: &[u32],
-    map: &Map,
-    processes: &mut [u32],
-    most: usize,
-    count: usize,
-    i: u32,
-    call: Call,
-) -> Turn
+pub fn start(p: &[u32], map: &Map, processes: &mut [u32], most: usize, count: usize, i: u32, call: Call) -> Turn
     requires words { ⌜ length (now p) ≤ 16384 ⌝ }
     requires there { ⌜ i < count ⌝ }
     requires fits { ⌜ count ≤ most ⌝ }
@@ -63,51 +55,18 @@ pub fn start(
                 return Turn::Odd;
             }
             let line = (count - 1) as u32;
-            let numbers = numbers_at(
-                p,
-                call.numbers,
-                call.expressions,
-                256,
-                variables(processes, k),
-            );
+            let numbers = numbers_at(p, call.numbers, call.expressions, 256, variables(processes, k));
             let ends = conversations_at(p, call.conversations, call.count, processes, k);
             let variables = call.expressions.max(head.variables) as usize;
-            begin_started(
-                processes,
-                count,
-                head.body as u32,
-                left - 1,
-                line,
-                &ends,
-                call.count,
-                &numbers,
-                variables,
-            );
-            release(
-                p,
-                call.conversations,
-                call.count,
-                processes,
-                k,
-                line,
-                left - 1,
-                numbers.next as u32,
-            );
+            begin_started(processes, count, head.body as u32, left - 1, line, &ends, call.count, &numbers, variables);
+            release(p, call.conversations, call.count, processes, k, line, left - 1, numbers.next as u32);
             Turn::Started
         }
     }
 }
 
 // The process becomes another.
-pub fn turn_into(
-    p: &[u32],
-    map: &Map,
-    processes: &mut [u32],
-    most: usize,
-    count: usize,
-    i: u32,
-    call: Call,
-) -> Turn
+pub fn turn_into(p: &[u32], map: &Map, processes: &mut [u32], most: usize, count: usize, i: u32, call: Call) -> Turn
     requires words { ⌜ length (now p) ≤ 16384 ⌝ }
     requires there { ⌜ i < count ⌝ }
     requires records { ⌜ 64 * count ≤ length (now processes) ⌝ }
@@ -132,25 +91,10 @@ pub fn turn_into(
             if head.variables > 16 {
                 return Turn::Odd;
             }
-            let numbers = numbers_at(
-                p,
-                call.numbers,
-                call.expressions,
-                256,
-                variables(processes, k),
-            );
+            let numbers = numbers_at(p, call.numbers, call.expressions, 256, variables(processes, k));
             let ends = conversations_at(p, call.conversations, call.count, processes, k);
             let variables = call.expressions.max(head.variables) as usize;
-            begin(
-                processes,
-                k,
-                head.body as u32,
-                left - 1,
-                &ends,
-                call.count,
-                &numbers,
-                variables,
-            );
+            begin(processes, k, head.body as u32, left - 1, &ends, call.count, &numbers, variables);
             Turn::On
         }
     }

@@ -9,19 +9,16 @@ use native.Mathlib.Omega.{arith}
 use lib.ListN.{length}
 use Rattle.rows.specs.declared.map.Map.{Map}
 use Rattle.rows.specs.Mapped.{Known}
-use Rattle.records.specs.Records.{recordAt}
-use Rattle.turns.specs.Holding.{Holding}
 use Rattle.turns.specs.Scheduling.{wish, end-of, waiting}
 use Rattle.turns.specs.Turning.{Crammed, starting, becoming, Oddness, shared, crammed}
-use Rattle.engine.specs.Ending.{Finished as Engine-finished, Strange}
-use Rattle.talks.specs.Once.{SpentSays, Finished}
+use Rattle.engine.specs.Whole.{Some-worker, AtRest}
+use Rattle.talks.specs.Once.{Finished}
 use Rattle.model.specs.Program.{nth, Action, start, become, Program}
 use Rattle.model.specs.Steps.{Endpoint, Worker, Configuration, spent, end, Steps, begin}
 use Rattle.model.specs.Keeps.{kept}
 use Rattle.model.specs.Rows.{new, Reads}
 use Rattle.model.specs.Picture.{Has, places, Keeps-on}
 use Rattle.model.specs.Theorems.{Still, Out}
-use Rattle.model.proofs.Lists.{nth-below, nth-there}
 use Rattle.model.proofs.Keeping.{or-open, good}
 use Rattle.model.proofs.Room.{fine-nth, start-fits, become-fits, reached-room}
 use Rattle.model.proofs.Sound.{Sound, reached-sound}
@@ -62,29 +59,13 @@ module _ (s : List ℕ) (g : Program) (reads : Reads s g) (keeps : kept g ≡ tr
   nothing-odd (shared i j w v e ne h k rw rv ww wv) = ne (sound .inv .holder i j e (w, h, waits-holds w e ww) (v, k, waits-holds v e wv))
   nothing-odd (crammed i w h r c) = not-crammed i w h c
 
--- the state of a record is that of its worker
-module _ (s second : List ℕ) (procs : List ℕ) (count : ℕ) (a : Configuration) (holding : Holding s second procs count a) where
-  pub spent-is : SpentSays procs count true → Out a
-  spent-is (r) =
-      let m = holding .many in
-      let w = nth-there (a .workers) (r .0) (let l = r .1 in omega arith) in
-      (r .0, w .0, w .1, sym (holding .each (r .0) (w .0) (w .1) .state) ∙ r .2)
-
-  pub spent-not : SpentSays procs count false → Out a → ⊥
-  spent-not nobody out =
-      let m = holding .many in
-      let b = nth-below (a .workers) (out .0) (out .2) in
-      nobody (out .0) (omega arith) (holding .each (out .0) (out .1) (out .2) .state ∙ out .3)
-
 -- what is said of a flag that is true, or false
 by-flag : {A B : Type 0} (b : Bool) (P : Bool → Type 0) → P b → (P true → A) → (P false → B) → (b ≡ true → A) × (b ≡ false → B)
 by-flag true P p f g = ((λ e. f p), (λ e. let z : _≡_ {A = ℕ} 0 1 = cc in absurd (omega arith)))
 by-flag false P p f g = ((λ e. let z : _≡_ {A = ℕ} 0 1 = cc in absurd (omega arith)), (λ e. g p))
 
-pub finished : (s : List ℕ) (m : Map) (g : Program) (most turns count total : ℕ) (old procs shown : List ℕ) (out : Bool) → Engine-finished s (m .second) g most old procs shown count total (begin g turns) → SpentSays procs count out →
-    Finished g most turns old shown total out
-finished s m g most turns count total old procs shown out f sp =
-    let h = f .holding in
-    let k = h .many in let l = f .few in
-    let q = by-flag out (SpentSays procs count) sp (spent-is s (m .second) procs count (f .now) h) (spent-not s (m .second) procs count (f .now) h) in
-    record { end = f .now; steps = f .steps; still = f .still; few = omega arith; written = f .written; total-is = f .total-is; spent-is = q .0; not-spent = q .1 }
+pub finished : (g : Program) (most turns count total : ℕ) (old shown : List ℕ) (out waits : Bool) → AtRest g most turns old shown count total out waits → Finished g most turns old shown total out
+finished g most turns count total old shown out waits f =
+  let k = f .many in let l = f .few in
+  let q = by-flag out (Some-worker (f .now) spent) (f .spent-is) (λ x. x) (λ x y. x (y .0) (y .1) (y .2) (y .3)) in
+  record { end = f .now; steps = f .steps; still = f .still; few = omega arith; written = f .written; total-is = f .total-is; spent-is = q .0; not-spent = q .1 }

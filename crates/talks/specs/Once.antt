@@ -6,12 +6,11 @@ use Prim.Native.Nat.{ℕ, _<_, _≤_}
 use lib.ListN.{length}
 use Rattle.rows.specs.declared.map.Map.{Map}
 use Rattle.rows.specs.Mapped.{Known}
-use Rattle.records.specs.Records.{recordAt}
 use Rattle.engine.specs.Running.{overlay, counted}
 use Rattle.talks.specs.declared.runs.Outcome.{Outcome}
 use Rattle.talks.specs.declared.runs.Outcome.the-variants.{Still as Ended-still, Crowded}
 use Rattle.model.specs.Program.{Program}
-use Rattle.model.specs.Steps.{Configuration, spent, Steps, begin}
+use Rattle.model.specs.Steps.{Configuration, Steps, begin}
 use Rattle.model.specs.Keeps.{kept}
 use Rattle.model.specs.Theorems.{Still, Out}
 
@@ -20,11 +19,6 @@ pub record Kept (s : List ℕ) (m : Map) : Type 0 where
   pub program : Program
   pub known : Known s m program
   pub keeps : kept program ≡ true
-
--- one of the first so many records is out of turns, or none is
-abbrev pub SpentSays : List ℕ → ℕ → Bool → Type 0
-SpentSays procs count true = (i : ℕ) × (i < count) × (recordAt procs i .state ≡ spent)
-SpentSays procs count false = (i : ℕ) → i < count → recordAt procs i .state ≡ spent → ⊥
 
 -- a run that came to its end: what was shown is laid over what was there before, as far as there is room
 pub record Finished (g : Program) (most turns : ℕ) (old shown : List ℕ) (total : ℕ) (out : Bool) : Type 0 where

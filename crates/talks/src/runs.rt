@@ -2,16 +2,12 @@
 ghost use mathlib.Core.Path.{_≡_};
 ghost use Prim.Native.Nat.{_+_, _*_, _≤_, _<_, _^_};
 ghost use lib.ListN.{length};
-ghost use Rattle.talks.specs.Once.{Kept, SpentSays, OnceSays};
+ghost use Rattle.talks.specs.Once.{Kept, OnceSays};
 ghost use Rattle.talks.specs.Runs.{GoSays, Comes};
 use crate::answers::Ran;
 use engine::order::Order;
-use engine::run::Ended;
-use engine::run::run_on;
-use engine::set_up::Prepared;
-use engine::set_up::set_up;
-use records::process::Standing;
-use records::process::state;
+use engine::whole::Outcome as Whole;
+use engine::whole::run_whole;
 use rows::map::Map;
 
 // How one run ended: no step is possible any more, with so many numbers shown, and some process is out of turns or none
@@ -22,62 +18,16 @@ pub enum Outcome {
     Crowded,
 }
 
-// Whether one of so many processes is out of turns.
-fn any_spent(processes: &[u32], count: usize) -> bool
-    requires { ⌜ 64 * count ≤ length (now processes) ⌝ }
-    ensures { λ r. ⌜ SpentSays (now (processes .entry)) count r ⌝ }
-{
-    let mut i = 0;
-    'look: loop {
-        if i >= count {
-            break 'look false;
-        }
-        match state(processes, i) {
-            Standing::Spent => break 'look true,
-            Standing::Running => i += 1,
-            Standing::Stopped => i += 1,
-        }
-    }
-}
-
-// One run from the beginning, in an order. The work words are parted into records of processes, the table of lines, and
-// the ring of those that can go on; what they hold before does not matter.
-pub fn run_once(
-    program: &[u32],
-    map: &Map,
-    most: u32,
-    turns: u32,
-    shown: &mut [u32],
-    work: &mut [u32],
-    order: Order,
-) -> Outcome
+// One run from the beginning, in an order.
+pub fn run_once(program: &[u32], map: &Map, most: u32, turns: u32, shown: &mut [u32], work: &mut [u32], order: Order) -> Outcome
     requires kept { ⌜ Kept (now program) (now map) ⌝ }
     requires room { ⌜ 4096 + 128 * most ≤ length (now work) ⌝ }
     ensures { λ r. ⌜ OnceSays (now (program .entry)) (now (map .entry)) most turns (now (shown .entry)) (now (shown .exit)) r ⌝ }
 {
-    let most = most as usize;
-    let (processes, rest) = work.split_at_mut(64 * most);
-    let (lines, ready) = rest.split_at_mut(2 * most);
-    match set_up(program, map, processes, lines, ready, most, turns, order) {
-        Prepared::Crowded => Outcome::Crowded,
-        Prepared::Empty => unreachable(),
-        Prepared::Ready(run) => match run_on(
-            program,
-            map,
-            processes,
-            lines,
-            ready,
-            shown,
-            most,
-            run,
-        ) {
-            Ended::Crowded => Outcome::Crowded,
-            Ended::Odd => unreachable(),
-            Ended::Still { count, total } => Outcome::Still {
-                total,
-                spent: any_spent(processes, count),
-            },
-        },
+    match run_whole(program, map, most, turns, order, shown, work) {
+        Whole::Crowded => Outcome::Crowded,
+        Whole::Odd => unreachable(),
+        Whole::Rest { count: _c, total, spent, waiting: _w } => Outcome::Still { total, spent },
     }
 }
 

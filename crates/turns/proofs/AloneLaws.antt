@@ -25,7 +25,8 @@ use Rattle.evaluation.specs.Values.{Evaluated, Evaluates}
 use Rattle.evaluation.proofs.GivingLaws.{kept-then, kept-as}
 use Rattle.turns.specs.Holding.{Holds, Below, Holding, potential, weight, weight-in, bank}
 use Rattle.turns.specs.Scheduling.{waiting, In, Runs, Scheduled}
-use Rattle.turns.specs.Turning.{Before, After, Doing}
+use Rattle.turns.specs.Turning.{Before, After}
+use Rattle.turns.specs.Meeting.{Doing}
 use Rattle.model.proofs.Lists.{same?, nth-below, nth-put-same, nth-put-other}
 use Rattle.turns.proofs.Queue.{in-here, in-there, in-split}
 use Rattle.turns.proofs.Potential.{potential-drop}
@@ -39,13 +40,11 @@ only-first-none zero = refl
 only-first-none (suc i) = refl
 
 module _ (s m procs lines : List ℕ) (count i : ℕ) (g : Program) (a : Configuration) (q : List ℕ) (b : Before s m g procs lines count i a q) (w : Worker) (n : nth (a .workers) i ≡ some w) (r : w .state ≡ running)
-    (procs′ : List ℕ) (t : Record) (k : Kept procs procs′ i t) (w′ : Worker) (h : Holds s m t w′) (below : Below (a .next) (w′ .ends)) where
+  (procs′ : List ℕ) (t : Record) (k : Kept procs procs′ i t) (w′ : Worker) (h : Holds s m t w′) (below : Below (a .next) (w′ .ends)) where
   here-below : i < count
   here-below = let u = nth-below (a .workers) i n in let v = b .holding .many in omega arith
-
   others-same : (j : ℕ) → (j ≡ i → ⊥) → weight (length s) (recordAt procs′ j) ≤ weight (length s) (recordAt procs j)
   others-same j ne = let e = ap (weight (length s)) (k .others j ne) in omega arith
-
   falls-by : (d : ℕ) → weight (length s) t + d ≤ weight (length s) (recordAt procs i) → potential s procs′ count + d ≤ potential s procs count
   falls-by d le = potential-drop s procs procs′ count i d here-below (λ j lt ne. others-same j ne) (let e = ap (weight (length s)) (k .at) in omega arith)
 
@@ -56,17 +55,14 @@ module _ (s m procs lines : List ℕ) (count i : ℕ) (g : Program) (a : Configu
     steps = more here (alone i w w′ [] ns n r al);
     holding = holding-one s m procs procs′ count a (after-alone a i w′ [] ns) (b .holding) i w′ t k h below (append-nil (put (a .workers) i w′)) (add-zero (a .next));
     scheduled = subst (λ ws. Scheduled g ws (waiterAt lines) (In (i ∷ q))) (sym (append-nil (put (a .workers) i w′))) (scheduled-on (b .scheduled) (λ j p. p) runs
-        (λ j p. nth-put-other (a .workers) i j w′ (λ z. p (subst (In (i ∷ q)) z (in-here i q)))) (λ e j l p z. z) (λ e j l z. (z, b .scheduled .waits e j l z .idle)));
+      (λ j p. nth-put-other (a .workers) i j w′ (λ z. p (subst (In (i ∷ q)) z (in-here i q)))) (λ e j l p z. z) (λ e j l z. (z, b .scheduled .waits e j l z .idle)));
     shown = refl;
-    falls = falls-by 1 (omega arith);
-  }
+    falls = falls-by 1 (omega arith) }
     where
       runs : (j : ℕ) → In (i ∷ q) j → Runs (put (a .workers) i w′) j
       runs j p = elim (same? i j) [
-        | inl z ↦ record { worker = w′; there = ap (nth (put (a .workers) i w′)) (sym z) ∙ nth-put-same (a .workers) i w′ n; runs = run }
-        | inr ne ↦ (let u = b .scheduled .ready j p in record { worker = u .worker; there = nth-put-other (a .workers) i j w′ ne ∙ u .there; runs = u .runs })
-      ]
-
+          inl z ↦ record { worker = w′; there = ap (nth (put (a .workers) i w′)) (sym z) ∙ nth-put-same (a .workers) i w′ n; runs = run }
+        | inr ne ↦ (let u = b .scheduled .ready j p in record { worker = u .worker; there = nth-put-other (a .workers) i j w′ ne ∙ u .there; runs = u .runs }) ]
   -- it takes no further step
   pub lone-off : Alone g (a .next) w w′ [] [] → (w′ .state ≡ running → ⊥) → weight (length s) t ≤ weight (length s) (recordAt procs i) → After s m g procs procs′ lines count count a q [] 0
   lone-off al out less = record {
@@ -74,15 +70,9 @@ module _ (s m procs lines : List ℕ) (count i : ℕ) (g : Program) (a : Configu
     steps = more here (alone i w w′ [] [] n r al);
     holding = holding-one s m procs procs′ count a (after-alone a i w′ [] []) (b .holding) i w′ t k h below (append-nil (put (a .workers) i w′)) (add-zero (a .next));
     scheduled = subst (λ ws. Scheduled g ws (waiterAt lines) (In q)) (sym (append-nil (put (a .workers) i w′)))
-        (scheduled-off (put (a .workers) i w′) (In q) i w′ (b .scheduled) (in-here i q) (b .once) (λ j p. in-split i q j p) (λ j p. in-there i q j p) (nth-put-same (a .workers) i w′ n)
+      (scheduled-off (put (a .workers) i w′) (In q) i w′ (b .scheduled) (in-here i q) (b .once) (λ j p. in-split i q j p) (λ j p. in-there i q j p) (nth-put-same (a .workers) i w′ n)
         (λ j ne. nth-put-other (a .workers) i j w′ (λ z. ne (sym z))) (record {
-          noted = λ e x. absurd (out x);
-          lone = λ line v ws ns x. absurd (out x);
-          first = λ j v w1 v1 x. absurd (out x);
-          second = λ j v w1 v1 x. absurd (out x);
-          from = λ e j l z. inl z;
-          keeps = λ e j l ne z. z;
-        }));
+          noted = λ e x. absurd (out x); lone = λ line v ws ns x. absurd (out x); first = λ j v w1 v1 x. absurd (out x); second = λ j v w1 v1 x. absurd (out x);
+          from = λ e j l z. inl z; keeps = λ e j l ne z. z }));
     shown = ap (λ l. a .shown ++ l) (only-first-none i);
-    falls = falls-by 0 (omega arith);
-  }
+    falls = falls-by 0 (omega arith) }

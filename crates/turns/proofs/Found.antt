@@ -32,19 +32,16 @@ module _ (s : List ℕ) (i : ℕ) (y : List ℕ) where
     where
       go : (k : Instruction) → instructionAt s i ≡ Some k → Standing s i y k (give c e t) → (v : ℕ) × (Some (Give c v) ≡ instructionAt s i)
       go k is (at-give {v = v} r) = (v, sym is)
-
   take-found : (c x : ℕ) (t : Action) → drop i s ≡ rowA (take c x t) ++ y → (n : ℕ) × (Some (Take c x n) ≡ instructionAt s i)
   take-found c x t h = let f = instruction-found s i (take c x t) y h in go (f .it) (f .is) (f .standing)
     where
       go : (k : Instruction) → instructionAt s i ≡ Some k → Standing s i y k (take c x t) → (n : ℕ) × (Some (Take c x n) ≡ instructionAt s i)
       go k is (at-take {n = n} r) = (n, sym is)
-
   choose-found : (c x : ℕ) (t : Action) → drop i s ≡ rowA (choose c x t) ++ y → (n : ℕ) × (Some (Choose c x n) ≡ instructionAt s i)
   choose-found c x t h = let f = instruction-found s i (choose c x t) y h in go (f .it) (f .is) (f .standing)
     where
       go : (k : Instruction) → instructionAt s i ≡ Some k → Standing s i y k (choose c x t) → (n : ℕ) × (Some (Choose c x n) ≡ instructionAt s i)
       go k is (at-choose {n = n} r) = (n, sym is)
-
   offer-found : (c : ℕ) (t u : Action) → drop i s ≡ rowA (offer c t u) ++ y → (f : ℕ) × (Some (Offer c f) ≡ instructionAt s i)
   offer-found c t u h = let f = instruction-found s i (offer c t u) y h in go (f .it) (f .is) (f .standing)
     where
@@ -53,13 +50,12 @@ module _ (s : List ℕ) (i : ℕ) (y : List ℕ) where
 
 rows-as : {s m : List ℕ} {r : Record} {w : Worker} (h : Holds s m r w) (a : Action) → w .todo ≡ a → drop (r .place) s ≡ rowA a ++ h .behind
 rows-as h a e = h .rows ∙ ap (λ t. rowA t ++ h .behind) e
-
 pub pairing : {s m : List ℕ} {r q : Record} {w v w′ v′ : Worker} → Holds s m r w → Holds s m q v → Together w v w′ v′ → Pairing s (r .place) (q .place)
 pairing {s} {r = r} {q = q} h k (passes c d x e t u a b f) =
-    let one = give-found s (r .place) (h .behind) c e t (rows-as h (give c e t) a) in
-    let two = take-found s (q .place) (k .behind) d x u (rows-as k (take d x u) b) in
-    give-take c (one .0) d x (two .0) (one .1) (two .1)
+  let one = give-found s (r .place) (h .behind) c e t (rows-as h (give c e t) a) in
+  let two = take-found s (q .place) (k .behind) d x u (rows-as k (take d x u) b) in
+  give-take c (one .0) d x (two .0) (one .1) (two .1)
 pairing {s} {r = r} {q = q} h k (agrees c d n t u v a b f) =
-    let one = choose-found s (r .place) (h .behind) c n t (rows-as h (choose c n t) a) in
-    let two = offer-found s (q .place) (k .behind) d u v (rows-as k (offer d u v) b) in
-    choose-offer c n (one .0) d (two .0) (one .1) (two .1)
+  let one = choose-found s (r .place) (h .behind) c n t (rows-as h (choose c n t) a) in
+  let two = offer-found s (q .place) (k .behind) d u v (rows-as k (offer d u v) b) in
+  choose-offer c n (one .0) d (two .0) (one .1) (two .1)

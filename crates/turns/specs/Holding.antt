@@ -25,7 +25,6 @@ pub record Holds (s second : List ℕ) (r : Record) (w : Worker) : Type 0 where
 -- ends of lines below n, with side 0 or 1
 abbrev pub Below : ℕ → List (Option Endpoint) → Type 0
 Below n es = (c : ℕ) (e : Endpoint) → end es c ≡ some e → (e .line < n) × (e .side < 2)
-
 -- The first so many records are the workers of a configuration. Each process but the first came with a line.
 pub record Holding (s second procs : List ℕ) (count : ℕ) (a : Configuration) : Type 0 where
   pub many : length (a .workers) ≡ count
@@ -37,18 +36,14 @@ pub record Holding (s second procs : List ℕ) (count : ℕ) (a : Configuration)
 abbrev pub bank : ℕ → ℕ → ℕ
 bank n zero = 0
 bank n (suc l) = n + (bank n l + bank n l)
-
 abbrev pub weight-in : State → ℕ → ℕ
 weight-in running n = n
 weight-in stopped n = 0
 weight-in spent n = 0
-
 abbrev pub weight : ℕ → Record → ℕ
 weight n r = weight-in (r .state) ((n - r .place) + bank n (r .left))
-
 abbrev pub sum : List ℕ → ℕ
 sum [] = 0
 sum (n ∷ ns) = n + sum ns
-
 abbrev pub potential : List ℕ → List ℕ → ℕ → ℕ
 potential s procs count = sum (table (λ k. weight (length s) (recordAt procs k)) 0 count)

@@ -22,12 +22,10 @@ wish (if e s t) = none
 wish (show e s) = none
 wish (start f cs es s) = none
 wish (become f cs es) = none
-
 -- the end at which a worker waits for the other side
 abbrev pub end-of : List (Option Endpoint) → Option ℕ → Option Endpoint
 end-of es none = none
 end-of es (some c) = end es c
-
 abbrev pub waiting : Worker → Option Endpoint
 waiting w = end-of (w .ends) (wish (w .todo))
 
@@ -42,7 +40,6 @@ pub record Waits (works : List Worker) (Ready : ℕ → Type 0) (e : Endpoint) (
   pub runs : worker .state ≡ running
   pub idle : Ready i → ⊥
   pub at : waiting worker ≡ some e
-
 -- process i is running
 pub record Runs (works : List Worker) (i : ℕ) : Type 0 where
   pub worker : Worker
@@ -55,4 +52,4 @@ pub record Scheduled (g : Program) (works : List Worker) (waiter : Endpoint → 
   pub waits : (e : Endpoint) (i : ℕ) → e .side < 2 → waiter e ≡ some i → Waits works Ready e i
   pub lone : (i line : ℕ) (w w′ : Worker) (ws : List Worker) (ns : List ℕ) → nth works i ≡ some w → w .state ≡ running → (Ready i → ⊥) → Alone g line w w′ ws ns → ⊥
   pub pair : (i j : ℕ) (w v w′ v′ : Worker) → (i ≡ j → ⊥) → nth works i ≡ some w → nth works j ≡ some v → w .state ≡ running → v .state ≡ running →
-      (Ready i → ⊥) → (Ready j → ⊥) → Together w v w′ v′ → ⊥
+    (Ready i → ⊥) → (Ready j → ⊥) → Together w v w′ v′ → ⊥

@@ -3,7 +3,8 @@ ghost use mathlib.Core.Path.{_≡_};
 ghost use Prim.Native.Nat.{_+_, _*_, _≤_, _<_};
 ghost use lib.ListN.{length};
 ghost use Rattle.rows.specs.declared.decode.Instruction.the-variants.{Stop, Set, If, Show};
-ghost use Rattle.turns.specs.Turning.{Acts, Doing};
+ghost use Rattle.turns.specs.Turning.{Acts};
+ghost use Rattle.turns.specs.Meeting.{Doing};
 use crate::turn::Turn;
 use evaluation::expressions::evaluate;
 use records::process::Standing;
@@ -26,15 +27,7 @@ pub fn stop(p: &[u32], map: &Map, processes: &mut [u32], count: usize, i: u32) -
 }
 
 // The process puts the value at a place into a variable.
-pub fn assign(
-    p: &[u32],
-    map: &Map,
-    processes: &mut [u32],
-    count: usize,
-    i: u32,
-    variable: u32,
-    value: usize,
-) -> Turn
+pub fn assign(p: &[u32], map: &Map, processes: &mut [u32], count: usize, i: u32, variable: u32, value: usize) -> Turn
     requires words { ⌜ length (now p) ≤ 16384 ⌝ }
     requires there { ⌜ i < count ⌝ }
     requires records { ⌜ 64 * count ≤ length (now processes) ⌝ }

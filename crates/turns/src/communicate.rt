@@ -4,8 +4,9 @@ ghost use mathlib.Core.Path.{_≡_};
 ghost use Prim.Native.Nat.{_+_, _-_, _*_, _≤_, _<_, _^_};
 ghost use lib.ListN.{length};
 ghost use Rattle.records.specs.Records.{endpoint};
+ghost use Rattle.turns.specs.Meeting.{Doing};
 ghost use Rattle.turns.specs.Turning.{Communicates, Parked};
-use crate::meeting::meet;
+use crate::meeting::exchange;
 use crate::turn::Turn;
 use queues::lines::facing_end;
 use queues::lines::forget;
@@ -13,6 +14,7 @@ use queues::lines::note;
 use queues::lines::waiter;
 use records::process::End;
 use records::process::end_at;
+use rows::decode::Instruction;
 use rows::map::Map;
 
 // Notes that a process waits at an end, if nobody else does.
@@ -30,17 +32,10 @@ fn park(lines: &mut [u32], e: End, i: u32) -> bool
     }
 }
 
-// A turn of process i, which waits in a conversation.
-pub fn communicate(
-    p: &[u32],
-    map: &Map,
-    processes: &mut [u32],
-    lines: &mut [u32],
-    count: usize,
-    i: u32,
-    conversation: u32,
-) -> Turn
+// A turn of process i, which waits in a conversation with this instruction.
+pub fn communicate(p: &[u32], map: &Map, processes: &mut [u32], lines: &mut [u32], count: usize, what: Instruction, i: u32, conversation: u32) -> Turn
     requires words { ⌜ length (now p) ≤ 16384 ⌝ }
+    requires doing { ⌜ Doing (now p) (now processes) i what ⌝ }
     requires there { ⌜ i < count ⌝ }
     requires code { ⌜ count < 2 ^ 32 ⌝ }
     requires records { ⌜ 64 * count ≤ length (now processes) ⌝ }
@@ -65,11 +60,7 @@ pub fn communicate(
                     if j as usize >= count {
                         return Turn::Off;
                     }
-                    if meet(p, map, processes, i as usize, j as usize) {
-                        forget(lines, far);
-                        return Turn::Both(j);
-                    }
-                    if meet(p, map, processes, j as usize, i as usize) {
+                    if exchange(p, map, processes, what, i as usize, j as usize) {
                         forget(lines, far);
                         return Turn::Both(j);
                     }

@@ -7,7 +7,8 @@ ghost use Prim.Native.Nat.{ℕ, _+_, _*_, _≤_, _<_};
 ghost use lib.ListN.{length, getD};
 ghost use lib.Dec.{eqb};
 ghost use Rattle.records.specs.Records.{recordAt};
-ghost use Rattle.turns.specs.Meeting.{Met, Giving, Choosing};
+ghost use Rattle.rows.specs.declared.decode.Instruction.the-variants.{Take, Offer};
+ghost use Rattle.turns.specs.Meeting.{Met, Exchanged, Giving, Choosing, Doing};
 use evaluation::expressions::evaluate;
 use records::process::place;
 use records::process::set_place;
@@ -17,27 +18,20 @@ use rows::decode::Instruction;
 use rows::decode::instruction_at;
 use rows::map::Map;
 
-// The first gives and the second takes, or the first chooses and the second offers, if that is what they are at.
-pub fn meet(p: &[u32], map: &Map, processes: &mut [u32], i: usize, j: usize) -> bool
+// Process i, which is at this instruction, and process j take a step together, if they are at what fits.
+pub fn exchange(p: &[u32], map: &Map, processes: &mut [u32], what: Instruction, i: usize, j: usize) -> bool
     requires words { ⌜ length (now p) ≤ 16384 ⌝ }
     requires first { ⌜ 64 * i + 64 ≤ length (now processes) ⌝ }
     requires second { ⌜ 64 * j + 64 ≤ length (now processes) ⌝ }
-    ensures { λ r. ⌜ Met (now (p .entry)) (now (map .entry) .second) (now (processes .entry)) (now (processes .exit)) i j r ⌝ }
+    requires doing { ⌜ Doing (now p) (now processes) i what ⌝ }
+    ensures { λ r. ⌜ Exchanged (now (p .entry)) (now (map .entry) .second) (now (processes .entry)) (now (processes .exit)) i j r ⌝ }
 {
-    match instruction_at(p, place(processes, i)) {
-        None => false,
-        Some(one) => match one {
-            Instruction::Give {
-                conversation: _c,
-                value,
-            } => give_to(p, processes, i, value, j),
-            Instruction::Choose {
-                conversation: _c,
-                way,
-                next,
-            } => choose_at(p, map, processes, i, way, next, j),
-            _ => false,
-        },
+    match what {
+        Instruction::Give { conversation: _c, value } => give_to(p, processes, i, value, j),
+        Instruction::Take { conversation, variable, next } => take_from(p, processes, i, conversation, variable, next, j),
+        Instruction::Choose { conversation: _c, way, next } => choose_at(p, map, processes, i, way, next, j),
+        Instruction::Offer { conversation, first } => offer_to(p, map, processes, i, conversation, first, j),
+        _ => false,
     }
 }
 
@@ -52,11 +46,7 @@ fn give_to(p: &[u32], processes: &mut [u32], i: usize, value: usize, j: usize) -
     match instruction_at(p, place(processes, j)) {
         None => false,
         Some(two) => match two {
-            Instruction::Take {
-                conversation: _d,
-                variable,
-                next,
-            } => {
+            Instruction::Take { conversation: _d, variable, next } => {
                 let given = evaluate(p, value, 256, variables(processes, i));
                 set_variable(processes, j, variable, given.value);
                 set_place(processes, j, next as u32);
@@ -69,15 +59,7 @@ fn give_to(p: &[u32], processes: &mut [u32], i: usize, value: usize, j: usize) -
 }
 
 // Chooses a way of the second, if that offers.
-fn choose_at(
-    p: &[u32],
-    map: &Map,
-    processes: &mut [u32],
-    i: usize,
-    way: u32,
-    next: usize,
-    j: usize,
-) -> bool
+fn choose_at(p: &[u32], map: &Map, processes: &mut [u32], i: usize, way: u32, next: usize, j: usize) -> bool
     requires words { ⌜ length (now p) ≤ 16384 ⌝ }
     requires first { ⌜ 64 * i + 64 ≤ length (now processes) ⌝ }
     requires second { ⌜ 64 * j + 64 ≤ length (now processes) ⌝ }
@@ -88,13 +70,55 @@ fn choose_at(
     match instruction_at(p, at) {
         None => false,
         Some(two) => match two {
-            Instruction::Offer {
-                conversation: _d,
-                first,
-            } => {
+            Instruction::Offer { conversation: _d, first } => {
                 let to = way_at(map, at, way, first);
                 set_place(processes, i, next as u32);
                 set_place(processes, j, to);
+                true
+            }
+            _ => false,
+        },
+    }
+}
+
+// Takes into a variable what the second gives, if it gives.
+fn take_from(p: &[u32], processes: &mut [u32], i: usize, conversation: u32, variable: u32, next: usize, j: usize) -> bool
+    requires words { ⌜ length (now p) ≤ 16384 ⌝ }
+    requires first { ⌜ 64 * i + 64 ≤ length (now processes) ⌝ }
+    requires second { ⌜ 64 * j + 64 ≤ length (now processes) ⌝ }
+    requires doing { ⌜ Doing (now p) (now processes) i (Take conversation variable next) ⌝ }
+    ensures { λ r. ⌜ ((m : List ℕ) → Met (now (p .entry)) m (now (processes .entry)) (now (processes .exit)) j i r) ⌝ }
+{
+    match instruction_at(p, place(processes, j)) {
+        None => false,
+        Some(two) => match two {
+            Instruction::Give { conversation: _d, value } => {
+                let given = evaluate(p, value, 256, variables(processes, j));
+                set_variable(processes, i, variable, given.value);
+                set_place(processes, i, next as u32);
+                set_place(processes, j, given.next as u32);
+                true
+            }
+            _ => false,
+        },
+    }
+}
+
+// Goes the way that the second chooses, if it chooses.
+fn offer_to(p: &[u32], map: &Map, processes: &mut [u32], i: usize, conversation: u32, first: usize, j: usize) -> bool
+    requires words { ⌜ length (now p) ≤ 16384 ⌝ }
+    requires first { ⌜ 64 * i + 64 ≤ length (now processes) ⌝ }
+    requires second { ⌜ 64 * j + 64 ≤ length (now processes) ⌝ }
+    requires doing { ⌜ Doing (now p) (now processes) i (Offer conversation first) ⌝ }
+    ensures { λ r. ⌜ Met (now (p .entry)) (now (map .entry) .second) (now (processes .entry)) (now (processes .exit)) j i r ⌝ }
+{
+    match instruction_at(p, place(processes, j)) {
+        None => false,
+        Some(two) => match two {
+            Instruction::Choose { conversation: _d, way, next } => {
+                let to = way_at(map, place(processes, i), way, first);
+                set_place(processes, j, next as u32);
+                set_place(processes, i, to);
                 true
             }
             _ => false,

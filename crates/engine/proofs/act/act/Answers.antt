@@ -9,22 +9,22 @@ returns-in-Stop c g a q reads mapped b = c .stop .ensures (c .args .most) (c .ar
 
 pub returns-in-Give : need.returns-in-Give
 returns-in-Give c g a q reads mapped b =
-    c .communicate .ensures (c .args .most) g a q b (λ w n. wish-give (c .args .p .now) (c .args .map .now .second) (c .args .processes .now) (c .args .lines .now) (c .args .count) (c .args .i) g a q b (c .place .result) (c .place .ensures)
+  c .communicate .ensures (c .args .most) g a q b (λ w n. wish-give (c .args .p .now) (c .args .map .now .second) (c .args .processes .now) (c .args .lines .now) (c .args .count) (c .args .i) g a q b (c .place .result) (c .place .ensures)
     (c .in-Some .what) (c .in-Some .ensures tt .is) w n (c .in-Give .conversation) (c .in-Give .-v) (c .in-Give .is))
 
 pub returns-in-Take : need.returns-in-Take
 returns-in-Take c g a q reads mapped b =
-    c .communicate-in-Take .ensures (c .args .most) g a q b (λ w n. wish-take (c .args .p .now) (c .args .map .now .second) (c .args .processes .now) (c .args .lines .now) (c .args .count) (c .args .i) g a q b (c .place .result) (c .place .ensures)
+  c .communicate-in-Take .ensures (c .args .most) g a q b (λ w n. wish-take (c .args .p .now) (c .args .map .now .second) (c .args .processes .now) (c .args .lines .now) (c .args .count) (c .args .i) g a q b (c .place .result) (c .place .ensures)
     (c .in-Some .what) (c .in-Some .ensures tt .is) w n (c .in-Take .conversation) (c .in-Take .-x) (c .in-Take .-n) (c .in-Take .is))
 
 pub returns-in-Choose : need.returns-in-Choose
 returns-in-Choose c g a q reads mapped b =
-    c .communicate-in-Choose .ensures (c .args .most) g a q b (λ w n. wish-choose (c .args .p .now) (c .args .map .now .second) (c .args .processes .now) (c .args .lines .now) (c .args .count) (c .args .i) g a q b (c .place .result) (c .place .ensures)
+  c .communicate-in-Choose .ensures (c .args .most) g a q b (λ w n. wish-choose (c .args .p .now) (c .args .map .now .second) (c .args .processes .now) (c .args .lines .now) (c .args .count) (c .args .i) g a q b (c .place .result) (c .place .ensures)
     (c .in-Some .what) (c .in-Some .ensures tt .is) w n (c .in-Choose .conversation) (c .in-Choose .-w) (c .in-Choose .-n) (c .in-Choose .is))
 
 pub returns-in-Offer : need.returns-in-Offer
 returns-in-Offer c g a q reads mapped b =
-    c .communicate-in-Offer .ensures (c .args .most) g a q b (λ w n. wish-offer (c .args .p .now) (c .args .map .now .second) (c .args .processes .now) (c .args .lines .now) (c .args .count) (c .args .i) g a q b (c .place .result) (c .place .ensures)
+  c .communicate-in-Offer .ensures (c .args .most) g a q b (λ w n. wish-offer (c .args .p .now) (c .args .map .now .second) (c .args .processes .now) (c .args .lines .now) (c .args .count) (c .args .i) g a q b (c .place .result) (c .place .ensures)
     (c .in-Some .what) (c .in-Some .ensures tt .is) w n (c .in-Offer .conversation) (c .in-Offer .-f) (c .in-Offer .is))
 
 pub returns-in-Set : need.returns-in-Set

@@ -15,5 +15,5 @@ returns-then-code-eq0 c = end-none (c .args .words .now) (c .args .i) (c .pre) (
 
 pub returns : need.returns
 returns c =
-    end-some (c .args .words .now) (c .args .i) (c .pre) (c .args .conversation) (not (eqb (word (c .args .words .now) (c .args .i) (48 + c .args .conversation)) 1))
-    (omega arith) (c .if-code-eq0 .left) refl
+  end-some (c .args .words .now) (c .args .i) (c .pre) (c .args .conversation) (not (eqb (word (c .args .words .now) (c .args .i) (48 + c .args .conversation)) 1))
+  (omega arith) (c .if-code-eq0 .left) refl

@@ -7,5 +7,5 @@ use Rattle.records.proofs.process.variables.Needs as need
 
 pub returns : need.returns
 returns c =
-    let e : 64 * c .args .i + 16 + c .min-count .result - (64 * c .args .i + 16) ≡ c .min-count .result = omega arith in
-    ap (λ n. take n (drop (64 * c .args .i + 16) (c .args .words .now))) e ∙ vars-part (c .args .words .now) (c .args .i) (c .min-count .result) (omega arith) (c .pre)
+  let e : 64 * c .args .i + 16 + c .min-count .result - (64 * c .args .i + 16) ≡ c .min-count .result = omega arith in
+  ap (λ n. take n (drop (64 * c .args .i + 16) (c .args .words .now))) e ∙ vars-part (c .args .words .now) (c .args .i) (c .min-count .result) (omega arith) (c .pre)

@@ -1,0 +1,2 @@
+-- The laws of waiting.
+pub mod WaitLaws

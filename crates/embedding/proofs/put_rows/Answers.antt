@@ -8,7 +8,7 @@ pub each-preserved : goal.each-preserved
 each-preserved c =
     let rows = c.args.rows.now in
     let left = c.args.left.now in
-    let x = c.put-row-at.ensures (rows_words (take c.each.k rows)) left c.each.invariant.0 c.each.invariant.1 in
+    let x = c.put_row-at.ensures (rows_words (take c.each.k rows)) left c.each.invariant.0 c.each.invariant.1 in
     let m = rows_more rows c.each.k _ c.each-test.true ∙ ap (λ n. rows_words (take n rows)) (sym (add-one c.each.k)) in
     (x.0 ∙ ap (λ l. overlay l left) m, x.1 ∙ ap counted m)
 

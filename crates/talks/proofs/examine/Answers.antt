@@ -10,12 +10,12 @@ returns-then-not-read c =
     let says : JudgedSays c.args.program.now NoProgram = c.if-not-read.ensures in
     record { says = says; one = one_program; only = λ q a. judged_only c.args.program.now NoProgram q says a; known = λ e. not_keeps e }
 
-pub returns-then-program-keeps : goal.returns-then-program-keeps
-returns-then-program-keeps c =
-    let says : JudgedSays c.args.program.now Keeps = judged_keeps c.args.program.now c.read.new.map c.if-not-read.ensures c.if-program-keeps.ensures in
-    record { says = says; one = one_program; only = λ q a. judged_only c.args.program.now Keeps q says a; known = λ e. kept_known c.args.program.now c.read.new.map c.if-not-read.ensures c.if-program-keeps.ensures }
+pub returns-then-program_keeps : goal.returns-then-program_keeps
+returns-then-program_keeps c =
+    let says : JudgedSays c.args.program.now Keeps = judged_keeps c.args.program.now c.read.new.map c.if-not-read.ensures c.if-program_keeps.ensures in
+    record { says = says; one = one_program; only = λ q a. judged_only c.args.program.now Keeps q says a; known = λ e. kept_known c.args.program.now c.read.new.map c.if-not-read.ensures c.if-program_keeps.ensures }
 
 pub returns : goal.returns
 returns c =
-    let says : JudgedSays c.args.program.now Careless = judged_careless c.args.program.now c.read.new.map c.if-not-read.ensures c.if-program-keeps.ensures in
+    let says : JudgedSays c.args.program.now Careless = judged_careless c.args.program.now c.read.new.map c.if-not-read.ensures c.if-program_keeps.ensures in
     record { says = says; one = one_program; only = λ q a. judged_only c.args.program.now Careless q says a; known = λ e. careless_keeps e }

@@ -13,4 +13,4 @@ pub returns-in-Careless : goal.returns-in-Careless
 returns-in-Careless c = answer_unkept c.args.program.now c.args.most c.args.turns (length c.args.work.now) c.args.shown.now (omega arith) c.in-Careless.ensures.says
 
 pub returns-in-Keeps : goal.returns-in-Keeps
-returns-in-Keeps c = post c.args.program.now c.args.most c.args.turns c.args.shown.now c.run-lent.new.shown (length c.args.work.now) c.run-lent.result c.run-lent.ensures.says c.run-lent.ensures.comes
+returns-in-Keeps c = post c.args.program.now c.args.most c.args.turns c.args.shown.now c.run_lent.new.shown (length c.args.work.now) c.run_lent.result c.run_lent.ensures.says c.run_lent.ensures.comes

@@ -6,7 +6,7 @@ use Rattle.engine.proofs.act.act.Goals as goal
 pub returns-in-Some : goal.returns-in-Some
 returns-in-Some c g a q reads mapped b =
     c.communicate.ensures c.args.most g a q b (λ w n. wish_talk c.args.p.now c.args.map.now.second c.args.processes.now c.args.lines.now c.args.count c.args.i g a q b c.place.result c.place.ensures
-    c.in-Some.what c.in-Some.ensures.is w n ∙ ap some (sym c.conversation-in.ensures))
+    c.in-Some.what c.in-Some.ensures.is w n ∙ ap some (sym c.conversation_in.ensures))
 
 pub returns-in-None : goal.returns-in-None
-returns-in-None c g a q reads mapped b = c.act-alone.ensures c.args.lines.now g a q reads mapped b
+returns-in-None c g a q reads mapped b = c.act_alone.ensures c.args.lines.now g a q reads mapped b

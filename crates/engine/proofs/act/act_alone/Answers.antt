@@ -22,8 +22,8 @@ pub returns-in-Start : goal.returns-in-Start
 returns-in-Start c lines g a q reads mapped b = c.start.ensures.begins lines g a q reads mapped b
 
 pub returns-in-Become : goal.returns-in-Become
-returns-in-Become c lines g a q reads mapped b = c.turn-into.ensures.begins lines g a q reads mapped b
+returns-in-Become c lines g a q reads mapped b = c.turn_into.ensures.begins lines g a q reads mapped b
 
-pub returns-in-default : goal.returns-in-default
-returns-in-default c = absurd (nothing_else c.args.p.now c.place.result c.in-Some.what (c.requires.alone ∙ ap (talk_at c.args.p.now) (sym c.place.ensures)) c.in-Some.ensures.is
-    c.in-default.not-Stop c.in-default.not-Set c.in-default.not-If c.in-default.not-Show c.in-default.not-Start c.in-default.not-Become)
+pub returns-in_default : goal.returns-in_default
+returns-in_default c = absurd (nothing_else c.args.p.now c.place.result c.in-Some.what (c.requires.alone ∙ ap (talk_at c.args.p.now) (sym c.place.ensures)) c.in-Some.ensures.is
+    c.in_default.not-Stop c.in_default.not-Set c.in_default.not-If c.in_default.not-Show c.in_default.not-Start c.in_default.not-Become)

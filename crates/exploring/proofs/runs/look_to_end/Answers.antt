@@ -16,5 +16,5 @@ returns-in-Wide c g a old reads mapped d = let t = c.in-Wide.ensures g a old rea
 
 pub returns-in-Still : goal.returns-in-Still
 returns-in-Still c g a old reads mapped d =
-    told_end c.args.p.now c.args.map.now.second g c.args.most old c.look-on.new.processes c.look-on.new.shown c.in-Still.count c.in-Still.total a c.args.left.now c.tell.new.left c.tell.result
+    told_end c.args.p.now c.args.map.now.second g c.args.most old c.look_on.new.processes c.look_on.new.shown c.in-Still.count c.in-Still.total a c.args.left.now c.tell.new.left c.tell.result
     (c.in-Still.ensures g a old reads mapped d) c.tell.ensures

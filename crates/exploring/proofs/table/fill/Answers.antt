@@ -5,10 +5,10 @@ use Rattle.exploring.proofs.table.fill.Goals as goal
 
 pub each-preserved : goal.each-preserved
 each-preserved c = (
-  c.fill-row-n.ensures.few,
+  c.fill_row-n.ensures.few,
   λ m a h.
       let t = c.each.invariant.1 m a h in
-      below_next c.args.p.now a.workers c.each.i c.fill-row-n.result c.args.left.now c.fill-row-n.new.left (c.fill-row-n.ensures.rows m a h (running_below a.workers c.each.i) c.args.left.now t.0 t.1),
+      below_next c.args.p.now a.workers c.each.i c.fill_row-n.result c.args.left.now c.fill_row-n.new.left (c.fill_row-n.ensures.rows m a h (running_below a.workers c.each.i) c.args.left.now t.0 t.1),
 )
 
 pub returns : goal.returns

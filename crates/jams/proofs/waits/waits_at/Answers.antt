@@ -8,24 +8,24 @@ returns-in-None c m w h = absurd (waits_none c.args.p.now m c.args.processes.now
 pub returns-in-Give : goal.returns-in-Give
 returns-in-Give c m w h =
     waits_give c.args.p.now m c.args.processes.now c.args.i c.place.result w h c.place.ensures c.in-Some.what c.in-Some.ensures.is
-    c.in-Give.conversation c.in-Give.-v (viewed c.end-at.result) c.in-Give.is c.end-at.ensures
+    c.in-Give.conversation c.in-Give._v (viewed c.end_at.result) c.in-Give.is c.end_at.ensures
 
 pub returns-in-Take : goal.returns-in-Take
 returns-in-Take c m w h =
     waits_take c.args.p.now m c.args.processes.now c.args.i c.place.result w h c.place.ensures c.in-Some.what c.in-Some.ensures.is
-    c.in-Take.conversation c.in-Take.-x c.in-Take.-n (viewed c.end-at-in-Take.result) c.in-Take.is c.end-at-in-Take.ensures
+    c.in-Take.conversation c.in-Take._x c.in-Take._n (viewed c.end_at-in-Take.result) c.in-Take.is c.end_at-in-Take.ensures
 
 pub returns-in-Choose : goal.returns-in-Choose
 returns-in-Choose c m w h =
     waits_choose c.args.p.now m c.args.processes.now c.args.i c.place.result w h c.place.ensures c.in-Some.what c.in-Some.ensures.is
-    c.in-Choose.conversation c.in-Choose.-w c.in-Choose.-n (viewed c.end-at-in-Choose.result) c.in-Choose.is c.end-at-in-Choose.ensures
+    c.in-Choose.conversation c.in-Choose._w c.in-Choose._n (viewed c.end_at-in-Choose.result) c.in-Choose.is c.end_at-in-Choose.ensures
 
 pub returns-in-Offer : goal.returns-in-Offer
 returns-in-Offer c m w h =
     waits_offer c.args.p.now m c.args.processes.now c.args.i c.place.result w h c.place.ensures c.in-Some.what c.in-Some.ensures.is
-    c.in-Offer.conversation c.in-Offer.-f (viewed c.end-at-in-Offer.result) c.in-Offer.is c.end-at-in-Offer.ensures
+    c.in-Offer.conversation c.in-Offer._f (viewed c.end_at-in-Offer.result) c.in-Offer.is c.end_at-in-Offer.ensures
 
-pub returns-in-default : goal.returns-in-default
-returns-in-default c m w h =
+pub returns-in_default : goal.returns-in_default
+returns-in_default c m w h =
     waits_not c.args.p.now m c.args.processes.now c.args.i c.place.result w h c.place.ensures c.in-Some.what c.in-Some.ensures.is
-    c.in-default.not-Give c.in-default.not-Take c.in-default.not-Choose c.in-default.not-Offer
+    c.in_default.not-Give c.in_default.not-Take c.in_default.not-Choose c.in_default.not-Offer

@@ -8,7 +8,7 @@ each-init c = handing_none c.args.p.now (stand c.args.conversations.now) c.args.
 
 pub each-preserved : goal.each-preserved
 each-preserved c =
-    handing_more c.args.p.now (stand c.args.conversations.now) c.args.listed c.args.wanted c.args.count c.each.k (stand c.each.conversations) c.each.invariant c.each-test.true c.in-Some.point (stand c.move-to.new.self) c.in-Some.ensures (omega arith) c.move-to.ensures
+    handing_more c.args.p.now (stand c.args.conversations.now) c.args.listed c.args.wanted c.args.count c.each.k (stand c.each.conversations) c.each.invariant c.each-test.true c.in-Some.point (stand c.move_to.new.self) c.in-Some.ensures (omega arith) c.move_to.ensures
 
 pub returns-in-None : goal.returns-in-None
 returns-in-None c = handing_absent c.args.p.now (stand c.args.conversations.now) c.args.listed c.args.wanted c.args.count c.each.k (stand c.each.conversations) c.each.invariant c.each-test.true c.in-None.ensures

@@ -9,16 +9,16 @@ pub each-preserved : goal.each-preserved
 each-preserved c g known =
     let n = known.mapped.process_count in
     let x = nth_there g.procs c.each.process (omega arith) in
-    tested_more (ProcessKeeps g) (all_keep g) (λ i. refl) (λ i y ys. refl) g.procs c.each.process (c.each.invariant g known) x.0 x.1 (c.if-not-process-keeps.ensures g x.0 known x.1)
+    tested_more (ProcessKeeps g) (all_keep g) (λ i. refl) (λ i y ys. refl) g.procs c.each.process (c.each.invariant g known) x.0 x.1 (c.if-not-process_keeps.ensures g x.0 known x.1)
 
 pub returns-then-process-ge64 : goal.returns-then-process-ge64
 returns-then-process-ge64 c g known = let n = known.mapped.process_count in let m = known.reads.procs in absurd (omega arith)
 
-pub returns-then-not-process-keeps : goal.returns-then-not-process-keeps
-returns-then-not-process-keeps c g known =
+pub returns-then-not-process_keeps : goal.returns-then-not-process_keeps
+returns-then-not-process_keeps c g known =
     let n = known.mapped.process_count in
     let x = nth_there g.procs c.each.process (omega arith) in
-    tested_not (ProcessKeeps g) (all_keep g) (λ i. refl) (λ i y ys. refl) g.procs c.each.process (c.each.invariant g known) x.0 x.1 (c.if-not-process-keeps.ensures g x.0 known x.1)
+    tested_not (ProcessKeeps g) (all_keep g) (λ i. refl) (λ i y ys. refl) g.procs c.each.process (c.each.invariant g known) x.0 x.1 (c.if-not-process_keeps.ensures g x.0 known x.1)
 
 pub returns : goal.returns
 returns c g known =

@@ -11,8 +11,8 @@ returns-in-None t c = record { behind = tt; says = none_says c.args.p.now c.args
 
 pub returns-in-Number : goal.returns-in-Number
 returns-in-Number t c = record {
-  behind = number_behind c.args.p.now c.args.at c.in-Number.-n c.in-Some.term c.in-Some.ensures.words c.in-Number.is;
-  says = number_says c.args.p.now c.args.at c.args.depth c.args.variables c.in-Some.term c.in-Some.ensures.is c.in-Number.-n c.in-Number.is;
+  behind = number_behind c.args.p.now c.args.at c.in-Number._n c.in-Some.term c.in-Some.ensures.words c.in-Number.is;
+  says = number_says c.args.p.now c.args.at c.args.depth c.args.variables c.in-Some.term c.in-Some.ensures.is c.in-Number._n c.in-Number.is;
 }
 
 pub returns-then-x-variables : goal.returns-then-x-variables
@@ -24,16 +24,16 @@ returns-then-x-variables t c = record {
 pub returns-else-x-variables : goal.returns-else-x-variables
 returns-else-x-variables t c = record { behind = tt; says = variable_missing c.args.p.now c.args.at c.args.depth c.args.variables c.in-Some.term c.in-Some.ensures.is c.in-Variable.x c.in-Variable.is (omega arith) }
 
-pub returns-in-None-variables-there : goal.returns-in-None-variables-there
-returns-in-None-variables-there t c = record {
+pub returns-in-None-variables_there : goal.returns-in-None-variables_there
+returns-in-None-variables_there t c = record {
   behind = tt;
-  says = first_missing c.args.p.now c.args.at c.args.depth c.args.variables c.in-Some.term c.in-Some.ensures.is c.in-Pair.-o c.in-Pair.first c.in-Pair.is (omega arith) c.in-None-variables-there.ensures.says;
+  says = first_missing c.args.p.now c.args.at c.args.depth c.args.variables c.in-Some.term c.in-Some.ensures.is c.in-Pair._o c.in-Pair.first c.in-Pair.is (omega arith) c.in-None-variables_there.ensures.says;
 }
 
-pub returns-in-Some-variables-there : goal.returns-in-Some-variables-there
-returns-in-Some-variables-there t c = record {
-  behind = second_behind c.args.p.now c.args.at c.in-Pair.first c.in-Some-variables-there.second c.in-Pair.-o c.in-Some.term c.in-Some.ensures.words c.in-Pair.is
-      c.in-Some-variables-there.ensures.behind c.variables-there-in-Some-variables-there.result c.variables-there-in-Some-variables-there.ensures.behind;
-  says = second_says c.args.p.now c.args.at c.args.depth c.args.variables c.in-Some.term c.in-Some.ensures.is c.in-Pair.-o c.in-Pair.first c.in-Pair.is (omega arith) c.in-Some-variables-there.second
-      c.variables-there-in-Some-variables-there.result c.in-Some-variables-there.ensures.says c.variables-there-in-Some-variables-there.ensures.says;
+pub returns-in-Some-variables_there : goal.returns-in-Some-variables_there
+returns-in-Some-variables_there t c = record {
+  behind = second_behind c.args.p.now c.args.at c.in-Pair.first c.in-Some-variables_there.second c.in-Pair._o c.in-Some.term c.in-Some.ensures.words c.in-Pair.is
+      c.in-Some-variables_there.ensures.behind c.variables_there-in-Some-variables_there.result c.variables_there-in-Some-variables_there.ensures.behind;
+  says = second_says c.args.p.now c.args.at c.args.depth c.args.variables c.in-Some.term c.in-Some.ensures.is c.in-Pair._o c.in-Pair.first c.in-Pair.is (omega arith) c.in-Some-variables_there.second
+      c.variables_there-in-Some-variables_there.result c.in-Some-variables_there.ensures.says c.variables_there-in-Some-variables_there.ensures.says;
 }

@@ -3,8 +3,8 @@ use Rattle.judging.specs.Standing.{stand}
 use Rattle.judging.proofs.WalkLaws.{Walked}
 use Rattle.judging.proofs.walk.+keeps_from.Given as goal
 
-abbrev pub decreases-keeps-from : goal.decreases-keeps-from
-decreases-keeps-from l = l.depth
+abbrev pub decreases-keeps_from : goal.decreases-keeps_from
+decreases-keeps_from l = l.depth
 
 abbrev pub invariant-walk : goal.invariant-walk
 invariant-walk l = Walked l.p l.map l.variables l.root l.at l.depth (stand l.initial.current) l.here l.deep l.current

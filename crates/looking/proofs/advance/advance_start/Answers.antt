@@ -15,5 +15,5 @@ returns-in-None c =
 pub returns-in-Some : goal.returns-in-Some
 returns-in-Some c =
     begins_told c.args.p.now c.args.map.now c.args.processes.now c.start-turn.new.processes c.args.most c.args.count c.args.i
-    (NotAlone c.args.p.now c.args.map.now c.args.processes.now c.args.i) c.requires.there c.requires.runs c.start-turn.result c.as-told.result c.args.call c.as-told.ensures c.start-turn.ensures.begins c.start-turn.ensures.settles
-    (λ z. c.if-turns-eq0.false (c.turns.ensures ∙ z)) (head_there c.args.p.now c.args.map.now c.args.call.process c.in-Some.-head c.requires.readable c.in-Some.ensures.is)
+    (NotAlone c.args.p.now c.args.map.now c.args.processes.now c.args.i) c.requires.there c.requires.runs c.start-turn.result c.as_told.result c.args.call c.as_told.ensures c.start-turn.ensures.begins c.start-turn.ensures.settles
+    (λ z. c.if-turns-eq0.false (c.turns.ensures ∙ z)) (head_there c.args.p.now c.args.map.now c.args.call.process c.in-Some._head c.requires.readable c.in-Some.ensures.is)

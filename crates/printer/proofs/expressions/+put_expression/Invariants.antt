@@ -1,4 +1,4 @@
 use Rattle.printer.proofs.expressions.+put_expression.Given as goal
 
-abbrev pub decreases-put-expression : goal.decreases-put-expression
-decreases-put-expression l = l.depth
+abbrev pub decreases-put_expression : goal.decreases-put_expression
+decreases-put_expression l = l.depth

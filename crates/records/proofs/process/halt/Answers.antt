@@ -3,4 +3,4 @@ use Rattle.records.proofs.RecordLaws.{state_kept}
 use Rattle.records.proofs.process.halt.Goals as goal
 
 pub returns : goal.returns
-returns c = state_kept c.args.words.now c.args.i c.requires c.state-code.result (state_is c.args.how) c.state-code.ensures
+returns c = state_kept c.args.words.now c.args.i c.requires c.state_code.result (state_is c.args.how) c.state_code.ensures

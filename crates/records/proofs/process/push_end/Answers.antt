@@ -8,5 +8,5 @@ pub returns : goal.returns
 returns c =
     let l = length_table (λ k. end_of (word c.args.words.now c.args.i (32 + k)) (word c.args.words.now c.args.i (48 + k))) 0 (min (word c.args.words.now c.args.i 5) 16) in
     let f = c.requires.few in
-    end_kept c.args.words.now c.args.i c.requires.room c.min-count.result c.end-code-line.result.0 c.end-code-line.result.1 (viewed c.args.end)
-    (omega arith) (omega arith) c.end-code-line.ensures
+    end_kept c.args.words.now c.args.i c.requires.room c.min-count.result c.end_code-line.result.0 c.end_code-line.result.1 (viewed c.args.end)
+    (omega arith) (omega arith) c.end_code-line.ensures

@@ -20,7 +20,7 @@ returns-then-deep-eq0 t c = record { ends = walk_shallow c.args.p.now c.args.sec
 pub returns-in-None : goal.returns-in-None
 returns-in-None t c = record {
   ends = walk_first c.args.p.now c.args.second.now c.walk.second c.args.at c.args.depth c.args.room c.walk.here c.walk.deep c.walk.left c.walk.invariant c.in-Fork.first c.in-Fork.ensures c.in-None.ensures.ends;
-  before = walk_before c.args.p.now c.args.second.now c.walk.second c.args.at c.args.depth c.args.room c.walk.here c.walk.deep c.walk.left c.walk.invariant c.in-Fork.first c.in-Fork.ensures c.action-end.new.second c.in-None.ensures.before;
+  before = walk_before c.args.p.now c.args.second.now c.walk.second c.args.at c.args.depth c.args.room c.walk.here c.walk.deep c.walk.left c.walk.invariant c.in-Fork.first c.in-Fork.ensures c.action_end.new.second c.in-None.ensures.before;
 }
 
 pub walk-preserved : goal.walk-preserved
@@ -31,4 +31,4 @@ walk-preserved t c =
     let g = e.further in
     let w = e.within in
     walk_fork c.args.p.now c.args.second.now c.walk.second c.args.at c.args.depth c.args.room c.walk.here c.walk.deep c.walk.left c.walk.invariant c.in-Fork.first c.in-Fork.ensures
-    c.action-end.new.second c.in-Some.next c.in-Some.ensures.before c.in-Some.ensures.ends (omega arith) (omega arith)
+    c.action_end.new.second c.in-Some.next c.in-Some.ensures.before c.in-Some.ensures.ends (omega arith) (omega arith)

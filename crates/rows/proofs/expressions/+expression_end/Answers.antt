@@ -10,19 +10,19 @@ returns-in-None t c = no_term c.args.p.now c.args.at c.args.depth c.in-None.ensu
 
 pub returns-in-Number : goal.returns-in-Number
 returns-in-Number t c =
-    number_at c.args.p.now c.args.at c.args.depth c.in-Number.-n c.in-Some.term (omega arith) c.in-Some.ensures.words c.in-Number.is
+    number_at c.args.p.now c.args.at c.args.depth c.in-Number._n c.in-Some.term (omega arith) c.in-Some.ensures.words c.in-Number.is
 
 pub returns-in-Variable : goal.returns-in-Variable
 returns-in-Variable t c =
-    variable_at c.args.p.now c.args.at c.args.depth c.in-Variable.-x c.in-Some.term (omega arith) c.in-Some.ensures.words c.in-Variable.is
+    variable_at c.args.p.now c.args.at c.args.depth c.in-Variable._x c.in-Some.term (omega arith) c.in-Some.ensures.words c.in-Variable.is
 
-pub returns-in-None-expression-end : goal.returns-in-None-expression-end
-returns-in-None-expression-end t c =
-    pair_no_first c.args.p.now c.args.at c.args.depth c.in-Pair.first c.in-Pair.-o c.in-Some.term (omega arith)
-    c.in-Some.ensures.is c.in-Some.ensures.words c.in-Pair.is c.in-None-expression-end.ensures
+pub returns-in-None-expression_end : goal.returns-in-None-expression_end
+returns-in-None-expression_end t c =
+    pair_no_first c.args.p.now c.args.at c.args.depth c.in-Pair.first c.in-Pair._o c.in-Some.term (omega arith)
+    c.in-Some.ensures.is c.in-Some.ensures.words c.in-Pair.is c.in-None-expression_end.ensures
 
-pub returns-in-Some-expression-end : goal.returns-in-Some-expression-end
-returns-in-Some-expression-end t c =
-    pair_end c.args.p.now c.args.at c.args.depth c.in-Pair.first c.in-Pair.-o c.in-Some.term (omega arith)
+pub returns-in-Some-expression_end : goal.returns-in-Some-expression_end
+returns-in-Some-expression_end t c =
+    pair_end c.args.p.now c.args.at c.args.depth c.in-Pair.first c.in-Pair._o c.in-Some.term (omega arith)
     c.in-Some.ensures.is c.in-Some.ensures.words c.in-Pair.is
-    c.expression-end-in-Some-expression-end.result c.in-Some-expression-end.ensures c.expression-end-in-Some-expression-end.ensures
+    c.expression_end-in-Some-expression_end.result c.in-Some-expression_end.ensures c.expression_end-in-Some-expression_end.ensures

@@ -1,4 +1,4 @@
 use Rattle.rows.proofs.expressions.+expression_end.Given as goal
 
-abbrev pub decreases-expression-end : goal.decreases-expression-end
-decreases-expression-end l = l.depth
+abbrev pub decreases-expression_end : goal.decreases-expression_end
+decreases-expression_end l = l.depth

@@ -7,11 +7,11 @@ each-init c = between_none c.args.p.now c.args.at c.args.depth 0 refl
 
 pub each-preserved : goal.each-preserved
 each-preserved c =
-    between_more c.args.p.now c.args.at c.args.depth c.each.-k c.each.here c.in-Some.next c.each.invariant c.in-Some.ensures
+    between_more c.args.p.now c.args.at c.args.depth c.each._k c.each.here c.in-Some.next c.each.invariant c.in-Some.ensures
 
 pub returns-in-None : goal.returns-in-None
 returns-in-None c =
-    between_stuck c.args.p.now c.args.at c.args.depth c.each.-k c.args.count c.each.here c.each.invariant c.each-test.true c.in-None.ensures
+    between_stuck c.args.p.now c.args.at c.args.depth c.each._k c.args.count c.each.here c.each.invariant c.each-test.true c.in-None.ensures
 
 pub returns : goal.returns
-returns c = between_all c.args.p.now c.args.at c.args.depth c.each.-k c.args.count c.each.here c.each.invariant (omega arith)
+returns c = between_all c.args.p.now c.args.at c.args.depth c.each._k c.args.count c.each.here c.each.invariant (omega arith)

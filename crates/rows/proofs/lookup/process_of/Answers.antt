@@ -7,6 +7,6 @@ returns-then-i-map c = record { within = tt; is = λ g known. no_process c.args.
 
 pub returns : goal.returns
 returns c = record {
-  within = head_within c.args.p.now _ c.head-at.result c.head-at.ensures.words;
-  is = λ g known. process_is c.args.p.now c.args.map.now g known c.args.process c.head-at.result (omega arith) c.head-at.ensures.is;
+  within = head_within c.args.p.now _ c.head_at.result c.head_at.ensures.words;
+  is = λ g known. process_is c.args.p.now c.args.map.now g known c.args.process c.head_at.result (omega arith) c.head_at.ensures.is;
 }

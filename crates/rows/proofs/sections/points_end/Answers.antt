@@ -7,8 +7,8 @@ each-init c = points_none c.args.p.now c.args.places.now c.args.at
 
 pub each-preserved : goal.each-preserved
 each-preserved c =
-    points_again c.args.p.now c.each.places c.args.at c.each.k c.each.here c.each.invariant c.in-Some.kind c.point-size-here.result
-    c.in-Some.ensures.words (omega arith) c.point-size-here.ensures
+    points_again c.args.p.now c.each.places c.args.at c.each.k c.each.here c.each.invariant c.in-Some.kind c.point_size-here.result
+    c.in-Some.ensures.words (omega arith) c.point_size-here.ensures
 
 pub returns-in-None : goal.returns-in-None
 returns-in-None c =

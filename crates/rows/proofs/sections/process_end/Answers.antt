@@ -16,7 +16,7 @@ returns-then-head c = record { ends = process_loaded c.args.p.now c.args.at c.in
 
 pub returns-else-head : goal.returns-else-head
 returns-else-head c = record {
-  ends = process_end c.args.p.now c.action-end.new.second c.args.at c.in-Some.head c.action-end.result c.in-Some.ensures.is c.in-Some.ensures.words
-      (omega arith) (omega arith) (omega arith) c.action-end.ensures.ends;
-  before = body_behind c.args.p.now c.args.second.now c.action-end.new.second c.args.at c.in-Some.head c.in-Some.ensures.words c.action-end.ensures.before;
+  ends = process_end c.args.p.now c.action_end.new.second c.args.at c.in-Some.head c.action_end.result c.in-Some.ensures.is c.in-Some.ensures.words
+      (omega arith) (omega arith) (omega arith) c.action_end.ensures.ends;
+  before = body_behind c.args.p.now c.args.second.now c.action_end.new.second c.args.at c.in-Some.head c.in-Some.ensures.words c.action_end.ensures.before;
 }

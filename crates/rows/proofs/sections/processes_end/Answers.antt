@@ -9,7 +9,7 @@ pub each-preserved : goal.each-preserved
 each-preserved c =
     let f = c.each.invariant.few in
     processed_more c.args.p.now c.each.places c.each.second c.args.at c.each.count c.each.here c.each.invariant
-    c.process-end.new.second c.in-Some.next (omega arith) (omega arith) c.in-Some.ensures.before c.in-Some.ensures.ends
+    c.process_end.new.second c.in-Some.next (omega arith) (omega arith) c.in-Some.ensures.before c.in-Some.ensures.ends
 
 pub returns-then-count-eq64 : goal.returns-then-count-eq64
 returns-then-count-eq64 c = processed_full c.args.p.now c.each.places c.each.second c.args.at c.each.count c.each.here c.each.invariant (omega arith) (omega arith)

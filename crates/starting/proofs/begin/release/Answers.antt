@@ -3,13 +3,13 @@ use Rattle.evaluation.specs.Handing.{listed}
 use Rattle.starting.proofs.BeginningLaws.{released_kept, released_few}
 use Rattle.starting.proofs.begin.release.Goals as goal
 
-pub push-end-requires : goal.push-end-requires
-push-end-requires c = record {
+pub push_end-requires : goal.push_end-requires
+push_end-requires c = record {
   room = omega arith;
-  few = released_few c.args.words.now c.clear-ends.new.words c.args.i (listed c.args.p.now c.args.at c.args.conversations) c.requires.few c.clear-ends.ensures;
+  few = released_few c.args.words.now c.clear_ends.new.words c.args.i (listed c.args.p.now c.args.at c.args.conversations) c.requires.few c.clear_ends.ensures;
 }
 
 pub returns : goal.returns
 returns c =
-    released_kept c.args.words.now c.clear-ends.new.words c.push-end.new.words c.set-turns.new.words c.set-place.new.words c.args.i c.args.line c.args.left c.args.next
-    (listed c.args.p.now c.args.at c.args.conversations) c.clear-ends.ensures c.push-end.ensures c.set-turns.ensures c.set-place.ensures
+    released_kept c.args.words.now c.clear_ends.new.words c.push_end.new.words c.set_turns.new.words c.set_place.new.words c.args.i c.args.line c.args.left c.args.next
+    (listed c.args.p.now c.args.at c.args.conversations) c.clear_ends.ensures c.push_end.ensures c.set_turns.ensures c.set_place.ensures

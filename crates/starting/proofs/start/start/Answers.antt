@@ -49,12 +49,12 @@ returns-then-call-gt16 c = record {
   );
 }
 
-pub returns-then-ends-count-gt15 : goal.returns-then-ends-count-gt15
-returns-then-ends-count-gt15 c = record {
-  settles = (λ g w reads mapped h. start_crams_own c.args.p.now c.args.map.now.second c.args.processes.now c.args.i g c.args.call w h c.in-Some.head (c.in-Some.ensures.is g reads mapped) c.requires.doing c.ends-count.result c.ends-count.ensures c.if-ends-count-gt15.true);
+pub returns-then-ends_count-gt15 : goal.returns-then-ends_count-gt15
+returns-then-ends_count-gt15 c = record {
+  settles = (λ g w reads mapped h. start_crams_own c.args.p.now c.args.map.now.second c.args.processes.now c.args.i g c.args.call w h c.in-Some.head (c.in-Some.ensures.is g reads mapped) c.requires.doing c.ends_count.result c.ends_count.ensures c.if-ends_count-gt15.true);
   begins = λ lines g a q reads mapped b. (
     start_many_own c.args.p.now c.args.map.now.second c.args.processes.now lines c.args.count c.args.i g a q b c.args.call c.turns-left.result c.turns-left.ensures c.requires.doing
-        c.in-Some.head (c.in-Some.ensures.is g reads mapped) c.if-left-eq0.false c.ends-count.result c.ends-count.ensures c.if-ends-count-gt15.true,
+        c.in-Some.head (c.in-Some.ensures.is g reads mapped) c.if-left-eq0.false c.ends_count.result c.ends_count.ensures c.if-ends_count-gt15.true,
     refl,
   );
 }
@@ -74,8 +74,8 @@ returns-else-head-gt16 c = record {
   settles = tt;
   begins = λ lines g a q reads mapped b. (
     start_started c.args.p.now c.args.map.now.second c.args.processes.now lines c.args.count c.args.i g a q b c.args.call c.turns-left.result c.turns-left.ensures c.requires.doing
-        c.in-Some.head (c.in-Some.ensures.is g reads mapped) c.if-left-eq0.false c.numbers-at-numbers.result c.conversations-at-ends.result c.variables.result.now c.begin-started.new.words c.release.new.words
-        _ c.max-variables.result c.variables.ensures c.numbers-at-numbers.ensures.numbers c.conversations-at-ends.ensures refl c.max-variables.ensures c.begin-started.ensures c.release.ensures,
+        c.in-Some.head (c.in-Some.ensures.is g reads mapped) c.if-left-eq0.false c.numbers_at-numbers.result c.conversations_at-ends.result c.variables.result.now c.begin_started.new.words c.release.new.words
+        _ c.max-variables.result c.variables.ensures c.numbers_at-numbers.ensures.numbers c.conversations_at-ends.ensures refl c.max-variables.ensures c.begin_started.ensures c.release.ensures,
     omega arith,
   );
 }

@@ -54,6 +54,6 @@ returns-else-head-gt16 c = record {
   settles = tt;
   begins = λ lines g a q reads mapped b.
       become_begun c.args.p.now c.args.map.now.second c.args.processes.now lines c.args.count c.args.i g a q b c.args.call c.turns-left.result c.turns-left.ensures c.requires.doing
-      c.in-Some.head (c.in-Some.ensures.is g reads mapped) c.if-left-eq0.false c.numbers-at-numbers.result c.conversations-at-ends.result c.variables.result.now c.begin.new.words
-      c.max-variables.result c.variables.ensures c.numbers-at-numbers.ensures.numbers c.conversations-at-ends.ensures c.max-variables.ensures c.begin.ensures;
+      c.in-Some.head (c.in-Some.ensures.is g reads mapped) c.if-left-eq0.false c.numbers_at-numbers.result c.conversations_at-ends.result c.variables.result.now c.begin.new.words
+      c.max-variables.result c.variables.ensures c.numbers_at-numbers.ensures.numbers c.conversations_at-ends.ensures c.max-variables.ensures c.begin.ensures;
 }

@@ -6,13 +6,13 @@ use Rattle.syntax.specs.Meaning.{points_of}
 use Rattle.syntax.specs.Mirror.{all_below}
 use Rattle.syntax.specs.declared.tree.Point.TheVariants.{Over}
 
-pub returns-then-not-stays-below : goal.returns-then-not-stays-below
-returns-then-not-stays-below c =
-    sym (below_not c.args.all c.args.points.now c.loop-p.p-index Over c.loop-p-test.true (sym c.if-not-stays-below.ensures))
+pub returns-then-not-stays_below : goal.returns-then-not-stays_below
+returns-then-not-stays_below c =
+    sym (below_not c.args.all c.args.points.now c.loop-p.p-index Over c.loop-p-test.true (sym c.if-not-stays_below.ensures))
 
 pub loop-p-preserved : goal.loop-p-preserved
 loop-p-preserved c =
-    below_more c.args.all c.args.points.now c.loop-p.p-index Over c.loop-p-test.true c.loop-p.invariant (sym c.if-not-stays-below.ensures)
+    below_more c.args.all c.args.points.now c.loop-p.p-index Over c.loop-p-test.true c.loop-p.invariant (sym c.if-not-stays_below.ensures)
 
 pub returns : goal.returns
 returns c =

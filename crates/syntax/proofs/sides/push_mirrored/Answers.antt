@@ -12,7 +12,7 @@ loop-p-init c = sym (append-nil (points_of (vec_items c.args.out.now)))
 
 pub loop-p-preserved : goal.loop-p-preserved
 loop-p-preserved c =
-    mirrored_more c.args.half c.args.near.now c.loop-p.p-index Over (vec_items c.args.out.now) (vec_items c.loop-p.out) (vec_items c.push.new.self) c.mirrored.result c.loop-p-test.true c.loop-p.invariant c.mirrored.ensures (pushed (c.mirrored.result ∷ []) refl c.in-ok-push.was c.push.ensures.items)
+    mirrored_more c.args.half c.args.near.now c.loop-p.p-index Over (vec_items c.args.out.now) (vec_items c.loop-p.out) (vec_items c.push.new.self) c.mirrored.result c.loop-p-test.true c.loop-p.invariant c.mirrored.ensures (pushed (c.mirrored.result ∷ []) refl c.in_ok-push.was c.push.ensures.items)
 
 pub returns : goal.returns
 returns c =

@@ -6,7 +6,7 @@ use Rattle.syntax.specs.Mirror.{from}
 
 pub loop-i-preserved : goal.loop-i-preserved
 loop-i-preserved c =
-    from_more c.args.first c.loop-i.i (vec_items c.args.out.now) (vec_items c.loop-i.out) (vec_items c.push.new.self) c.loop-i.invariant (pushed ((c.args.first + c.loop-i.i) ∷ []) refl c.in-ok-push.was c.push.ensures.items)
+    from_more c.args.first c.loop-i.i (vec_items c.args.out.now) (vec_items c.loop-i.out) (vec_items c.push.new.self) c.loop-i.invariant (pushed ((c.args.first + c.loop-i.i) ∷ []) refl c.in_ok-push.was c.push.ensures.items)
 
 pub returns : goal.returns
 returns c =

@@ -1,5 +1,5 @@
 use Rattle.syntax.proofs.Sizes.{actions}
 use Rattle.syntax.proofs.write.+write_action.Given as goal
 
-abbrev pub decreases-write-action : goal.decreases-write-action
-decreases-write-action l = actions l.a.now
+abbrev pub decreases-write_action : goal.decreases-write_action
+decreases-write_action l = actions l.a.now

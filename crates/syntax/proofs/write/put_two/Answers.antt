@@ -4,4 +4,4 @@ use Rattle.syntax.proofs.write.put_two.Goals as goal
 
 pub returns : goal.returns
 returns c =
-    append_after (vec_items c.args.out.now) (vec_items c.put.new.out) (vec_items c.put-2.new.out) (c.args.first ∷ []) (c.args.second ∷ []) c.in-ok-put.ensures c.in-ok-put-2.ensures
+    append_after (vec_items c.args.out.now) (vec_items c.put.new.out) (vec_items c.put-2.new.out) (c.args.first ∷ []) (c.args.second ∷ []) c.in_ok-put.ensures c.in_ok-put-2.ensures

@@ -4,7 +4,7 @@ use Rattle.syntax.proofs.write.write_expressions.Goals as goal
 
 pub loop-e-preserved : goal.loop-e-preserved
 loop-e-preserved c =
-    flat_more expression_words c.args.es.now c.loop-e.e-index c.e-item.result c.e-item.result (vec_items c.args.out.now) (vec_items c.loop-e.out) (vec_items c.write-expression.new.out) c.loop-e-test.true c.e-item.is c.loop-e.invariant c.in-ok-write-expression.ensures
+    flat_more expression_words c.args.es.now c.loop-e.e-index c.e-item.result c.e-item.result (vec_items c.args.out.now) (vec_items c.loop-e.out) (vec_items c.write_expression.new.out) c.loop-e-test.true c.e-item.is c.loop-e.invariant c.in_ok-write_expression.ensures
 
 pub returns : goal.returns
 returns c =

@@ -6,7 +6,7 @@ use Rattle.syntax.proofs.write.write_points.Goals as goal
 pub loop-p-preserved : goal.loop-p-preserved
 loop-p-preserved c =
     let xs = c.args.points.now in
-    flat_more point_words xs c.loop-p.p-index (get_or xs c.loop-p.p-index Over) Over (vec_items c.args.out.now) (vec_items c.loop-p.out) (vec_items c.write-point.new.out) c.loop-p-test.true refl c.loop-p.invariant c.in-ok-write-point.ensures
+    flat_more point_words xs c.loop-p.p-index (get_or xs c.loop-p.p-index Over) Over (vec_items c.args.out.now) (vec_items c.loop-p.out) (vec_items c.write_point.new.out) c.loop-p-test.true refl c.loop-p.invariant c.in_ok-write_point.ensures
 
 pub returns : goal.returns
 returns c =

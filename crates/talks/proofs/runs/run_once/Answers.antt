@@ -2,8 +2,8 @@ use Rattle.std.proofs.Common.{arith}
 use Rattle.talks.proofs.RunLaws.{nothing_odd, finished}
 use Rattle.talks.proofs.runs.run_once.Goals as goal
 
-pub run-whole-requires : goal.run-whole-requires
-run-whole-requires c =
+pub run_whole-requires : goal.run_whole-requires
+run_whole-requires c =
     let k = c.requires.kept in
     let r = c.requires.room in
     record { words = k.known.reads.words; lent = omega arith; readable = record { program = k.program; reads = k.known.reads; mapped = k.known.mapped } }
@@ -21,4 +21,4 @@ returns-in-Crowded c g known keeps =
 
 pub returns-in-Rest : goal.returns-in-Rest
 returns-in-Rest c g known keeps =
-    finished g c.args.most c.args.turns c.in-Rest.-c c.in-Rest.total c.args.shown.now c.run-whole.new.shown c.in-Rest.spent c.in-Rest.-w (c.in-Rest.ensures g known.reads known.mapped)
+    finished g c.args.most c.args.turns c.in-Rest._c c.in-Rest.total c.args.shown.now c.run_whole.new.shown c.in-Rest.spent c.in-Rest._w (c.in-Rest.ensures g known.reads known.mapped)

@@ -7,7 +7,7 @@ returns-then-given-eq0 c = record {
   acts = λ most lines g a q b.
       turn_else c.args.p.now c.args.map.now.second c.args.processes.now lines c.args.count c.args.i g a q b
       c.args.condition c.variables.result.now c.evaluate-given.result c.variables.ensures c.evaluate-given.ensures.value
-      c.set-place.new.words c.place-at.result c.requires.doing c.place-at.ensures c.if-given-eq0.true c.set-place.ensures;
+      c.set_place.new.words c.place-at.result c.requires.doing c.place-at.ensures c.if-given-eq0.true c.set_place.ensures;
 }
 
 pub returns : goal.returns
@@ -16,5 +16,5 @@ returns c = record {
   acts = λ most lines g a q b.
       turn_then c.args.p.now c.args.map.now.second c.args.processes.now lines c.args.count c.args.i g a q b
       c.args.condition c.variables.result.now c.evaluate-given.result c.variables.ensures c.evaluate-given.ensures.value
-      c.set-place-2.new.words c.requires.doing c.if-given-eq0.false c.set-place-2.ensures;
+      c.set_place-2.new.words c.requires.doing c.if-given-eq0.false c.set_place-2.ensures;
 }

@@ -13,13 +13,13 @@ returns-in-None c m =
 
 pub returns-in-Take : goal.returns-in-Take
 returns-in-Take c m =
-    gave c.args.p.now m c.args.processes.now c.set-variable.new.words c.set-place.new.words c.set-place-in-Take.new.words c.args.i c.args.j
-    c.args.value c.place.result c.in-Take.-d c.in-Take.variable c.in-Take.next c.in-Some.two c.variables.result.now c.evaluate-given.result
+    gave c.args.p.now m c.args.processes.now c.set_variable.new.words c.set_place.new.words c.set_place-in-Take.new.words c.args.i c.args.j
+    c.args.value c.place.result c.in-Take._d c.in-Take.variable c.in-Take.next c.in-Some.two c.variables.result.now c.evaluate-given.result
     c.requires.gives c.place.ensures (talk_found c.args.p.now c.place.result c.in-Some.two c.in-Some.ensures.is) c.in-Take.is c.in-Some.ensures.words c.variables.ensures c.evaluate-given.ensures.value
-    c.set-variable.ensures c.set-place.ensures c.set-place-in-Take.ensures
+    c.set_variable.ensures c.set_place.ensures c.set_place-in-Take.ensures
 
-pub returns-in-default : goal.returns-in-default
-returns-in-default c m =
+pub returns-in_default : goal.returns-in_default
+returns-in_default c m =
     unmet c.args.p.now m c.args.processes.now _ c.args.i c.args.j refl
     (give_other c.args.p.now (record_at c.args.processes.now c.args.i).place (record_at c.args.processes.now c.args.j).place
-    c.requires.gives.conversation c.args.value c.in-Some.two c.requires.gives.is (talk_found c.args.p.now c.place.result c.in-Some.two c.in-Some.ensures.is ∙ ap (instruction_at c.args.p.now) c.place.ensures) c.in-default.not-Take)
+    c.requires.gives.conversation c.args.value c.in-Some.two c.requires.gives.is (talk_found c.args.p.now c.place.result c.in-Some.two c.in-Some.ensures.is ∙ ap (instruction_at c.args.p.now) c.place.ensures) c.in_default.not-Take)

@@ -14,14 +14,14 @@ returns-in-None c =
 
 pub returns-in-Choose : goal.returns-in-Choose
 returns-in-Choose c =
-    chose c.args.p.now c.args.map.now.second c.args.processes.now c.set-place.new.words c.set-place-in-Choose.new.words c.args.j c.args.i
-    c.in-Choose.way c.in-Choose.next (record_at c.args.processes.now c.args.i).place c.args.conversation c.args.first c.way-at-to.result (Offer c.args.conversation c.args.first)
-    (choosing c.args.p.now c.place.result (record_at c.args.processes.now c.args.j).place c.in-Choose.-d c.in-Choose.way c.in-Choose.next c.in-Some.two c.place.ensures (talk_found c.args.p.now c.place.result c.in-Some.two c.in-Some.ensures.is) c.in-Choose.is c.in-Some.ensures.words)
-    refl c.requires.doing.is refl c.requires.doing.words (c.way-at-to.ensures ∙ ap (λ p. cond (eqb c.in-Choose.way 0) c.args.first (get_or c.args.map.now.second p 0)) c.place-in-Choose.ensures)
-    c.set-place.ensures c.set-place-in-Choose.ensures
+    chose c.args.p.now c.args.map.now.second c.args.processes.now c.set_place.new.words c.set_place-in-Choose.new.words c.args.j c.args.i
+    c.in-Choose.way c.in-Choose.next (record_at c.args.processes.now c.args.i).place c.args.conversation c.args.first c.way_at-to.result (Offer c.args.conversation c.args.first)
+    (choosing c.args.p.now c.place.result (record_at c.args.processes.now c.args.j).place c.in-Choose._d c.in-Choose.way c.in-Choose.next c.in-Some.two c.place.ensures (talk_found c.args.p.now c.place.result c.in-Some.two c.in-Some.ensures.is) c.in-Choose.is c.in-Some.ensures.words)
+    refl c.requires.doing.is refl c.requires.doing.words (c.way_at-to.ensures ∙ ap (λ p. cond (eqb c.in-Choose.way 0) c.args.first (get_or c.args.map.now.second p 0)) c.place-in-Choose.ensures)
+    c.set_place.ensures c.set_place-in-Choose.ensures
 
-pub returns-in-default : goal.returns-in-default
-returns-in-default c =
+pub returns-in_default : goal.returns-in_default
+returns-in_default c =
     unmet c.args.p.now c.args.map.now.second c.args.processes.now _ c.args.j c.args.i refl
     (offer_other c.args.p.now (record_at c.args.processes.now c.args.j).place (record_at c.args.processes.now c.args.i).place
-    c.args.conversation c.args.first c.in-Some.two c.requires.doing.is (talk_found c.args.p.now c.place.result c.in-Some.two c.in-Some.ensures.is ∙ ap (instruction_at c.args.p.now) c.place.ensures) c.in-default.not-Choose)
+    c.args.conversation c.args.first c.in-Some.two c.requires.doing.is (talk_found c.args.p.now c.place.result c.in-Some.two c.in-Some.ensures.is ∙ ap (instruction_at c.args.p.now) c.place.ensures) c.in_default.not-Choose)

@@ -14,14 +14,14 @@ returns-in-None c m =
 
 pub returns-in-Give : goal.returns-in-Give
 returns-in-Give c m =
-    gave c.args.p.now m c.args.processes.now c.set-variable.new.words c.set-place.new.words c.set-place-in-Give.new.words c.args.j c.args.i
+    gave c.args.p.now m c.args.processes.now c.set_variable.new.words c.set_place.new.words c.set_place-in-Give.new.words c.args.j c.args.i
     c.in-Give.value (record_at c.args.processes.now c.args.i).place c.args.conversation c.args.variable c.args.next (Take c.args.conversation c.args.variable c.args.next) c.variables.result.now c.evaluate-given.result
-    (giving c.args.p.now c.place.result (record_at c.args.processes.now c.args.j).place c.in-Give.-d c.in-Give.value c.in-Some.two c.place.ensures (talk_found c.args.p.now c.place.result c.in-Some.two c.in-Some.ensures.is) c.in-Give.is c.in-Some.ensures.words)
+    (giving c.args.p.now c.place.result (record_at c.args.processes.now c.args.j).place c.in-Give._d c.in-Give.value c.in-Some.two c.place.ensures (talk_found c.args.p.now c.place.result c.in-Some.two c.in-Some.ensures.is) c.in-Give.is c.in-Some.ensures.words)
     refl c.requires.doing.is refl c.requires.doing.words c.variables.ensures c.evaluate-given.ensures.value
-    c.set-variable.ensures c.set-place.ensures c.set-place-in-Give.ensures
+    c.set_variable.ensures c.set_place.ensures c.set_place-in-Give.ensures
 
-pub returns-in-default : goal.returns-in-default
-returns-in-default c m =
+pub returns-in_default : goal.returns-in_default
+returns-in_default c m =
     unmet c.args.p.now m c.args.processes.now _ c.args.j c.args.i refl
     (take_other c.args.p.now (record_at c.args.processes.now c.args.j).place (record_at c.args.processes.now c.args.i).place
-    c.args.conversation c.args.variable c.args.next c.in-Some.two c.requires.doing.is (talk_found c.args.p.now c.place.result c.in-Some.two c.in-Some.ensures.is ∙ ap (instruction_at c.args.p.now) c.place.ensures) c.in-default.not-Give)
+    c.args.conversation c.args.variable c.args.next c.in-Some.two c.requires.doing.is (talk_found c.args.p.now c.place.result c.in-Some.two c.in-Some.ensures.is ∙ ap (instruction_at c.args.p.now) c.place.ensures) c.in_default.not-Give)

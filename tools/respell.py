@@ -28,7 +28,7 @@ SPECIAL = {"getD-nth": "get_or_nth", "getD-zeros": "get_or_zeros", "No-program":
 
 def files(*ends):
     for folder, dirs, names in os.walk("crates"):
-        dirs[:] = sorted(d for d in dirs if d not in ("out", "data"))
+        dirs[:] = sorted(d for d in dirs if d != "data" and not (d == "out" and folder.count(os.sep) == 1))
         for name in sorted(names):
             if name.endswith(ends):
                 yield os.path.join(folder, name)

@@ -5,7 +5,8 @@ mod texts;
 
 use answers::{Judging, print_text_of};
 use options::{Wanted, read_options};
-use sources::{Failed, Source, answer_lines, report, words_of_command};
+use sources::{Failed, Source, answer_lines, report, status, words_of_command};
+use std::process::ExitCode;
 use texts::{judge_text, print_rows};
 
 const HELP: &str = "judge: says whether a program keeps to its conversations
@@ -46,6 +47,6 @@ fn run(rt: &HostRuntime) -> Result<(), Failed> {
     }
 }
 
-fn main(rt: HostRuntime) -> Result<(), Failed> {
-    report(&rt, "judge", run(&rt))
+fn main(rt: HostRuntime) -> ExitCode {
+    status(report(&rt, "judge", run(&rt)))
 }

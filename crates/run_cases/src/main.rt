@@ -1,8 +1,9 @@
 // Does what the command lines of its standard input ask of `run`, one after the other, and says how each ended.
 use running::run_command;
-use sources::{Failed, report};
+use sources::{Failed, report, status};
 use std::alloc::Global;
 use std::io::{BufRead, BufReader};
+use std::process::ExitCode;
 
 // The words of a command line.
 fn words_of(heap: Global, line: &str) -> Result<Vec<String>, Failed> {
@@ -25,12 +26,12 @@ fn try_line(rt: &HostRuntime, line: &str) -> Result<(), Failed> {
 }
 
 fn run(rt: &HostRuntime) -> Result<(), Failed> {
-    for line in BufReader::new(rt.stdin()).lines(rt.alloc()) {
+    for line in BufReader::new(rt.alloc(), rt.stdin())?.lines(rt.alloc()) {
         try_line(rt, line?.as_str())?;
     }
     Ok(())
 }
 
-fn main(rt: HostRuntime) -> Result<(), Failed> {
-    report(&rt, "run_cases", run(&rt))
+fn main(rt: HostRuntime) -> ExitCode {
+    status(report(&rt, "run_cases", run(&rt)))
 }

@@ -1,6 +1,7 @@
 // The command line, and the end of a program.
 use crate::failed::Failed;
 use std::env;
+use std::process::ExitCode;
 
 // The words after the program's name.
 pub fn words_of_command(rt: &HostRuntime) -> Result<Vec<String>, Failed> {
@@ -24,5 +25,13 @@ pub fn report(rt: &HostRuntime, reader: &str, end: Result<(), Failed>) -> Result
             Err(Failed::Said)
         }
         Err(Failed::Said) => Err(Failed::Said),
+    }
+}
+
+// The status that a program ends with: 0, or 1 where it failed.
+pub fn status(end: Result<(), Failed>) -> ExitCode {
+    match end {
+        Ok(()) => ExitCode::SUCCESS,
+        Err(_) => ExitCode::FAILURE,
     }
 }

@@ -7,7 +7,7 @@ mod named;
 mod source;
 mod texts;
 
-pub use command::{report, words_of_command};
+pub use command::{report, status, words_of_command};
 pub use failed::Failed;
 pub use indexed::{Indexed, Mark, Span, read_indexed};
 pub use lines_of::{Answers, answer_lines, print_full, read_words};

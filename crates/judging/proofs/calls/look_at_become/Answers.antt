@@ -1,6 +1,6 @@
 use Rattle.std.proofs.Common.{arith}
 use Rattle.judging.specs.Standing.{stand}
-use Rattle.judging.proofs.ActionLaws.{become_kept, become-careless}
+use Rattle.judging.proofs.ActionLaws.{become_kept, become_careless}
 use Rattle.judging.proofs.calls.look_at_become.Goals as goal
 
 pub returns-then-becomes_well : goal.returns-then-becomes_well
@@ -10,4 +10,4 @@ returns-then-becomes_well c = record {
 }
 
 pub returns-else-becomes_well : goal.returns-else-becomes_well
-returns-else-becomes_well c = record { behind = tt; says = become-careless c.args.p.now c.args.map.now c.args.call.now c.args.depth c.args.variables c.args.root (stand c.args.conversations.now) c.if-becomes_well.ensures }
+returns-else-becomes_well c = record { behind = tt; says = become_careless c.args.p.now c.args.map.now c.args.call.now c.args.depth c.args.variables c.args.root (stand c.args.conversations.now) c.if-becomes_well.ensures }

@@ -6,7 +6,7 @@ use Rattle.model.specs.Steps.{Configuration, only_first}
 use Rattle.records.proofs.TableLaws.{length_table}
 use Rattle.queues.specs.declared.ring.Ring.{Ring}
 use Rattle.queues.specs.Lines.{waiter_at}
-use Rattle.queues.specs.Rings.{slot, queue, taken, Within, Pushed, Took}
+use Rattle.queues.specs.Rings.{slot, queue, taken, Within, Pushed, Gone}
 use Rattle.turns.specs.Holding.{Holding, potential}
 use Rattle.turns.specs.Scheduling.{In, Runs, Scheduled}
 use Rattle.turns.specs.Turning.{Before, After}
@@ -68,7 +68,7 @@ module _ (s m procs lines ready shown : List ℕ) (r : Run) (g : Program) (a : C
     who_below = let u = run.scheduled.ready i (k, who) in let v = nth_below a.workers i u.there in let w = run.holding.many in omega arith
 
     -- it is ready no more
-    pub went_off : (ready' : List ℕ) (ring' : Ring) (order : Order) (procs' lines' : List ℕ) → Took ready ready' r.ring k ring' → After s m g procs procs' lines' r.count r.count a (taken (queue_of ready r) k) [] 0 →
+    pub went_off : (ready' : List ℕ) (ring' : Ring) (order : Order) (procs' lines' : List ℕ) → Gone ready ready' r.ring k ring' → After s m g procs procs' lines' r.count r.count a (taken (queue_of ready r) k) [] 0 →
         Went s m g old procs procs' lines' ready' shown r (record { ring = ring'; count = r.count; total = r.total; order = order }) a
     went_off ready' ring' order procs' lines' tk af =
         went procs' lines' ready' shown (record { ring = ring'; count = r.count; total = r.total; order = order }) (taken (queue_of ready r) k) [] 0 af

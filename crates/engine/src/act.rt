@@ -6,8 +6,9 @@ ghost use Rattle.starting.specs.Begins.{Begins};
 ghost use Rattle.turns.specs.Turning.{Turns};
 
 use records::process::place;
-use rows::decode::{Instruction, conversation_in, instruction_at, talk_at};
+use rows::decode::{Instruction, instruction_at};
 use rows::map::Map;
+use rows::narrow::{conversation_in, talk_at};
 use starting::start::{start, turn_into};
 use turns::alone::{assign, fork, show, stop};
 use turns::communicate::communicate;

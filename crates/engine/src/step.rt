@@ -4,7 +4,7 @@ ghost use Rattle.engine.specs.Running.{overlay, counted, Room, Right};
 
 use crate::act::act;
 use crate::order::{Order, draw_place};
-use queues::ring::{Ring, look, push, take};
+use queues::ring::{Ring, leave, look, push};
 use rows::map::Map;
 use turns::turn::Turn;
 
@@ -114,7 +114,7 @@ pub fn step(
             })
         }
         Turn::Off => {
-            let ring = take(ready, run.ring, next.place);
+            let ring = leave(ready, run.ring, next.place);
             Stepped::Go(Run {
                 ring,
                 count: run.count,

@@ -2,7 +2,8 @@
 ghost use Rattle.std.specs.Prelude.{◌≡◌, ◌≤◌, length};
 ghost use Rattle.evaluation.specs.Values.{applied, at_or_0, Evaluates};
 
-use rows::decode::{Operator, Term, leaf_at, term_at};
+use rows::decode::{Operator, Term, term_at};
+use rows::narrow::leaf_at;
 
 // A value, and the place behind its expression.
 #[derive(Clone, Copy)]

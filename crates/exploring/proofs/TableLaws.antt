@@ -11,7 +11,7 @@ use Rattle.records.specs.Records.{record_at, endpoint}
 use Rattle.queues.specs.Lines.{facing}
 use Rattle.turns.specs.Holding.{Holds, Holding}
 use Rattle.turns.specs.Scheduling.{wish, end_of, waiting}
-use Rattle.jams.specs.Told.{HoldsEnd, HolderIs}
+use Rattle.jams.specs.Told.{HoldsEnd, HolderIs, NoneBefore}
 use Rattle.engine.specs.Outs.{Same}
 use Rattle.model.proofs.Keeping.{or_open}
 use Rattle.model.proofs.Lists.{nth_below, nth_there, nth_snoc_split}
@@ -70,9 +70,9 @@ module _ (s m procs : List ℕ) (count : ℕ) (a : Configuration) (h : Holding s
   below : (j : ℕ) (x : Endpoint) → HoldsAnEnd a.workers j x → j < count
   below j x (w, n, e) = let l = nth_below a.workers j n in let k = h.many in omega arith
 
-  first_holder : (x : Endpoint) (r : Maybe ℕ) → HolderIs procs count x r → FirstHolder a.workers x r
-  first_holder x None f = λ j p. holds_none j x (f j (below j x p)) p
-  first_holder x (Some j) f = (holds_one j x f.0 f.1, λ k l p. holds_none k x (f.2 k l) p)
+  first_holder : (x : Endpoint) (r : Maybe ℕ) → HolderIs procs count x r → NoneBefore procs x r → FirstHolder a.workers x r
+  first_holder x None f n = λ j p. holds_none j x (f j (below j x p)) p
+  first_holder x (Some j) f n = (holds_one j x f.0 f.1, λ k l p. holds_none k x (n k l) p)
 
   module _ (i : ℕ) (lt : i < count) (run : (record_at procs i).state ≡ running) (at : ℕ) (is_at : at ≡ (record_at procs i).place) where
     runs : (worker i lt).0.state ≡ running
@@ -94,9 +94,9 @@ module _ (s m procs : List ℕ) (count : ℕ) (a : Configuration) (h : Holding s
       follows = λ j e. absurd (no_some e);
     }
 
-    pub row_waits : (e f : End) (who : Maybe ℕ) → ((n : List ℕ) (w : Worker) → Holds s n (record_at procs i) w → some (endpoint e) ≡ waiting w) → endpoint f ≡ facing (endpoint e) → HolderIs procs count (endpoint f) who →
+    pub row_waits : (e f : End) (who : Maybe ℕ) → ((n : List ℕ) (w : Worker) → Holds s n (record_at procs i) w → some (endpoint e) ≡ waiting w) → endpoint f ≡ facing (endpoint e) → HolderIs procs count (endpoint f) who → NoneBefore procs (endpoint f) who →
         Row_is s a.workers i (record { process = i; place = at; end = Some e; holder = who })
-    row_waits e f who z is t = record {
+    row_waits e f who z is t n = record {
       worker = (worker i lt).0;
       there = (worker i lt).1;
       runs = runs;
@@ -109,7 +109,7 @@ module _ (s m procs : List ℕ) (count : ℕ) (a : Configuration) (h : Holding s
     }
       where
         first : FirstHolder a.workers (facing (endpoint e)) who
-        first = first_holder (facing (endpoint e)) who (subst (λ (x : Endpoint). HolderIs procs count x who) is t)
+        first = first_holder (facing (endpoint e)) who (subst (λ (x : Endpoint). HolderIs procs count x who) is t) (subst (λ (x : Endpoint). NoneBefore procs x who) is n)
 
         its_holder : (j : ℕ) (r : Maybe ℕ) → r ≡ Some j → FirstHolder a.workers (facing (endpoint e)) r → HoldsAnEnd a.workers j (facing (endpoint e))
         its_holder j None w f = absurd (no_some w)

@@ -1,5 +1,5 @@
 -- Who waits where, and who holds an end.
-use Rattle.std.specs.Prelude.{◌≡◌, ℕ, ◌<◌, Bool, true, false, List, Option as Maybe, MatchOption, ◌≢◌}
+use Rattle.std.specs.Prelude.{◌≡◌, ℕ, ◌<◌, Bool, true, false, List, Option as Maybe, MatchOption, IfSome, ◌≢◌}
 use Rattle.std.proofs.Math.Option.{Option, some}
 use Rattle.model.specs.Steps.{Endpoint, Worker, end}
 use Rattle.records.specs.declared.process.End.{End}
@@ -22,4 +22,8 @@ HoldsEnd procs j e false = (c : ℕ) → end (record_at procs j).ends c ≢ some
 
 -- the first process that holds this end, if one does
 abbrev pub HolderIs : List ℕ → ℕ → Endpoint → Maybe ℕ → Type 0
-HolderIs procs n e r = MatchOption r ((j : ℕ) → j < n → HoldsEnd procs j e false) (λ j. (j < n) × HoldsEnd procs j e true × ((k : ℕ) → k < j → HoldsEnd procs k e false))
+HolderIs procs n e r = MatchOption r ((j : ℕ) → j < n → HoldsEnd procs j e false) (λ j. (j < n) × HoldsEnd procs j e true)
+
+-- none before that process holds it
+abbrev pub NoneBefore : List ℕ → Endpoint → Maybe ℕ → Type 0
+NoneBefore procs e r = IfSome r (λ j. (k : ℕ) → k < j → HoldsEnd procs k e false)

@@ -1,7 +1,7 @@
 // Who holds an end of a line.
 ghost use Rattle.std.specs.Prelude.{◌≡◌, ◌+◌, ◌*◌, ◌^◌, ◌<◌, ◌≤◌, length};
 ghost use Rattle.records.specs.Records.{endpoint, viewed};
-ghost use Rattle.jams.specs.Told.{IsEnd, HoldsEnd, HolderIs};
+ghost use Rattle.jams.specs.Told.{IsEnd, HoldsEnd, HolderIs, NoneBefore};
 
 use records::process::{End, end_at};
 
@@ -43,7 +43,8 @@ pub fn holds_end(processes: &[u32], j: usize, e: End) -> bool
 // The first of so many processes that has this end among its conversations.
 pub fn holder(processes: &[u32], count: u32, e: End) -> Option<u32>
     requires { 64 * count ≤ length processes.now }
-    ensures { HolderIs processes.now count (endpoint e) result }
+    ensures holder { HolderIs processes.now count (endpoint e) result }
+    ensures first { NoneBefore processes.now (endpoint e) result }
 {
     'each: for j in 0..count {
         if holds_end(processes, j as usize, e) {

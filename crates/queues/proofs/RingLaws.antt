@@ -5,7 +5,7 @@ use Rattle.model.specs.Program.{nth, put}
 use Rattle.records.specs.Tables.{table}
 use Rattle.records.proofs.TableLaws.{table_same, table_put, table_snoc, nth_table}
 use Rattle.queues.specs.declared.ring.Ring.{Ring}
-use Rattle.queues.specs.Rings.{slot, queue, taken, Within, Pushed, Took}
+use Rattle.queues.specs.Rings.{slot, queue, taken, Within, Pushed, Gone}
 
 pub slot_below : (n h k : ℕ) → h < n → k ≤ n → slot n h k < n
 slot_below n h k p q = grind arith
@@ -90,7 +90,7 @@ looked s r k at there is =
     nth_table (λ j. get_or s (slot (length s) r.head j) 0) 0 r.count k there ∙ (ap (λ j. some (get_or s (slot (length s) r.head j) 0)) y ∙ ap (λ j. some (get_or s j 0)) (sym is))
 
 pub took : (s : List ℕ) (r : Ring) (k at head : ℕ) → Within s r → k < r.count → at ≡ slot (length s) r.head k → head ≡ slot (length s) r.head 1 →
-    Took s (set s at (get_or s r.head 0)) r k (record { head = head; count = r.count - 1 })
+    Gone s (set s at (get_or s r.head 0)) r k (record { head = head; count = r.count - 1 })
 took s r k at head w there is next =
     let l = length-set s at (get_or s r.head 0) in
     let p = w.head in

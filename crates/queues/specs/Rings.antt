@@ -1,8 +1,10 @@
 -- The queue of processes that can go on: a ring over lent words, given by its first slot and how many are in it.
 use Rattle.std.specs.Prelude.{◌≡◌, ℕ, zero, suc, ◌+◌, ◌-◌, ◌<◌, ◌≤◌, cond, List, [], ◌∷◌, ◌++◌, length, nat_lt, slice_index}
-use Rattle.model.specs.Program.{put}
+use Rattle.std.proofs.Math.Option.{some}
+use Rattle.model.specs.Program.{nth, put}
 use Rattle.records.specs.Tables.{table}
 use Rattle.queues.specs.declared.ring.Ring.{Ring}
+use Rattle.queues.specs.declared.ring.Taken.{Taken}
 
 -- the slot k places after the first, where there are n slots
 abbrev pub slot : ℕ → ℕ → ℕ → ℕ
@@ -30,9 +32,17 @@ pub record Pushed (s s' : List ℕ) (r r' : Ring) (who : ℕ) : Type 0 where
   pub items : queue s' r'.head r'.count ≡ queue s r.head r.count ++ (who ∷ [])
   pub count : r'.count ≡ r.count + 1
 
--- the one at place k is taken out
-pub record Took (s s' : List ℕ) (r : Ring) (k : ℕ) (r' : Ring) : Type 0 where
+-- the one at place k has gone
+pub record Gone (s s' : List ℕ) (r : Ring) (k : ℕ) (r' : Ring) : Type 0 where
   pub long : length s' ≡ length s
   pub within : Within s' r'
   pub rest : queue s' r'.head r'.count ≡ taken (queue s r.head r.count) k
   pub count : r'.count + 1 ≡ r.count
+
+-- the one at place k is taken out
+pub record Took (s s' : List ℕ) (r : Ring) (k : ℕ) (t : Taken) : Type 0 where
+  pub long : length s' ≡ length s
+  pub within : Within s' t.ring
+  pub who : nth (queue s r.head r.count) k ≡ some t.who
+  pub rest : queue s' t.ring.head t.ring.count ≡ taken (queue s r.head r.count) k
+  pub count : t.ring.count + 1 ≡ r.count

@@ -2,13 +2,20 @@
 ghost use Rattle.std.specs.Prelude.{◌≡◌, ◌+◌, ◌-◌, ◌*◌, ◌^◌, ◌<◌, ◌≤◌, length};
 ghost use Rattle.std.proofs.Math.Option.{some};
 ghost use Rattle.model.specs.Program.{nth};
-ghost use Rattle.queues.specs.Rings.{slot, queue, Within, Pushed, Took};
+ghost use Rattle.queues.specs.Rings.{slot, queue, Within, Pushed, Gone, Took};
 
 // The first slot, and how many are in the ring.
 #[derive(Clone, Copy)]
 pub struct Ring {
     pub head: usize,
     pub count: usize,
+}
+
+// The one that was taken out, and the ring without it.
+#[derive(Clone, Copy)]
+pub struct Taken {
+    pub who: u32,
+    pub ring: Ring,
 }
 
 // The slot so many places after the first.
@@ -48,10 +55,10 @@ pub fn look(words: &[u32], ring: Ring, place: usize) -> u32
 }
 
 // Takes out the one at a place of the queue, the first for 0; the first comes to stand in its place.
-pub fn take(words: &mut [u32], ring: Ring, place: usize) -> Ring
+pub fn leave(words: &mut [u32], ring: Ring, place: usize) -> Ring
     requires within { Within words.old ring }
     requires there { place < ring.count }
-    ensures { Took words.old words.new ring place result }
+    ensures { Gone words.old words.new ring place result }
 {
     let slots = words.len();
     let gap = slot_after(slots, ring.head, place);
@@ -61,4 +68,15 @@ pub fn take(words: &mut [u32], ring: Ring, place: usize) -> Ring
         head,
         count: ring.count - 1,
     }
+}
+
+// Takes out the one at a place of the queue, the first for 0.
+pub fn take(words: &mut [u32], ring: Ring, place: usize) -> Taken
+    requires within { Within words.old ring }
+    requires there { place < ring.count }
+    ensures { Took words.old words.new ring place result }
+{
+    let who = look(words, ring, place);
+    let ring = leave(words, ring, place);
+    Taken { who, ring }
 }

@@ -48,11 +48,11 @@ pub fn set_place(words: &mut [u32], i: usize, to: u32)
 }
 
 // How many turns a process has left.
-pub fn turns(records: &[u32], i: usize) -> u32
-    requires { 64 * i + 64 ≤ length records.now }
-    ensures { result ≡ (record_at records.now i).left }
+pub fn turns(words: &[u32], i: usize) -> u32
+    requires { 64 * i + 64 ≤ length words.now }
+    ensures { result ≡ (record_at words.now i).left }
 {
-    records[64 * i + TURNS]
+    words[64 * i + TURNS]
 }
 
 // Sets how many turns a process has left.
@@ -60,7 +60,8 @@ pub fn set_turns(words: &mut [u32], i: usize, left: u32)
     requires { 64 * i + 64 ≤ length words.old }
     ensures { Kept words.old words.new i (spends (record_at words.old i) left) }
 {
-    words[64 * i + TURNS] = left;
+    let at = 64 * i + TURNS;
+    words[at] = left;
 }
 
 // How a process stands.
@@ -152,15 +153,16 @@ pub fn clear_end(words: &mut [u32], i: usize, conversation: u32)
 }
 
 // A process begins, so far without conversations and variables.
-pub fn reset(words: &mut [u32], i: usize, body: u32, turns: u32)
+pub fn reset(words: &mut [u32], i: usize, to: u32, left: u32)
     requires { 64 * i + 64 ≤ length words.old }
-    ensures { Kept words.old words.new i (begins body turns) }
+    ensures { Kept words.old words.new i (begins to left) }
 {
-    words[64 * i + PLACE] = body;
-    words[64 * i + TURNS] = turns;
-    words[64 * i + STATE] = 0;
-    words[64 * i + VARIABLES] = 0;
-    words[64 * i + CONVERSATIONS] = 0;
+    let start = 64 * i;
+    words[start + PLACE] = to;
+    words[start + TURNS] = left;
+    words[start + STATE] = 0;
+    words[start + VARIABLES] = 0;
+    words[start + CONVERSATIONS] = 0;
 }
 
 // Gives a process one more conversation.

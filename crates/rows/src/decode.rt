@@ -2,7 +2,7 @@
 //
 // A place is an index into the words. An operand that has no fixed length is given by the place where it begins.
 ghost use Rattle.std.specs.Prelude.{◌≡◌, IfSome};
-ghost use Rattle.rows.specs.Decode.{instruction_at, talk_at, conversation_in, call_at, term_at, leaf_at, point_at, head_at, Words, CallWords, TermWords, PointWords, HeadWords};
+ghost use Rattle.rows.specs.Decode.{instruction_at, call_at, term_at, point_at, head_at, Words, CallWords, TermWords, PointWords, HeadWords};
 
 // What a process does.
 #[derive(Clone, Copy)]
@@ -139,66 +139,6 @@ pub fn instruction_at(p: &[u32], at: usize) -> Option<Instruction>
     }
 }
 
-// The give, take, choose or offer at a place, if one stands there: the instructions at which a process waits. It is what
-// `instruction_at` says of them, and small enough to become part of a loop over steps.
-pub fn talk_at(p: &[u32], at: usize) -> Option<Instruction>
-    ensures is { result ≡ talk_at p.now at }
-    ensures words { IfSome result (λ x. Words p.now at x) }
-{
-    if at >= p.len() {
-        return None;
-    }
-    let left = p.len() - at;
-    match p[at] {
-        1 if left > 1 => Some(Instruction::Give {
-            conversation: p[at + 1],
-            value: at + 2,
-        }),
-        2 if left > 2 => Some(Instruction::Take {
-            conversation: p[at + 1],
-            variable: p[at + 2],
-            next: at + 3,
-        }),
-        3 if left > 2 => Some(Instruction::Choose {
-            conversation: p[at + 1],
-            way: p[at + 2],
-            next: at + 3,
-        }),
-        4 if left > 1 => Some(Instruction::Offer {
-            conversation: p[at + 1],
-            first: at + 2,
-        }),
-        _ => None,
-    }
-}
-
-// The conversation in which a give, take, choose or offer waits.
-pub fn conversation_in(what: Instruction) -> u32
-    ensures { result ≡ conversation_in what }
-{
-    match what {
-        Instruction::Give {
-            conversation,
-            value: _v,
-        } => conversation,
-        Instruction::Take {
-            conversation,
-            variable: _x,
-            next: _n,
-        } => conversation,
-        Instruction::Choose {
-            conversation,
-            way: _w,
-            next: _n,
-        } => conversation,
-        Instruction::Offer {
-            conversation,
-            first: _f,
-        } => conversation,
-        _ => 0,
-    }
-}
-
 // The operands of the start or become at a place, if they are there.
 fn call_at(p: &[u32], at: usize) -> Option<Call>
     ensures is { result ≡ call_at p.now at }
@@ -252,23 +192,6 @@ pub fn term_at(p: &[u32], at: usize) -> Option<Term>
             operator: Operator::Less,
             first: at + 1,
         }),
-        _ => None,
-    }
-}
-
-// The number or variable at a place, if one stands there: what `term_at` says of them, and small enough to become part of
-// its callers.
-pub fn leaf_at(p: &[u32], at: usize) -> Option<Term>
-    ensures is { result ≡ leaf_at p.now at }
-    ensures words { IfSome result (λ x. TermWords p.now at x) }
-{
-    if at >= p.len() {
-        return None;
-    }
-    let left = p.len() - at;
-    match p[at] {
-        0 if left > 1 => Some(Term::Number(p[at + 1])),
-        1 if left > 1 => Some(Term::Variable(p[at + 1])),
         _ => None,
     }
 }

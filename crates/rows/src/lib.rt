@@ -4,6 +4,7 @@ pub mod decode;
 mod expressions;
 pub mod lookup;
 pub mod map;
+pub mod narrow;
 mod sections;
 
 pub use crate::sections::read;

@@ -76,16 +76,8 @@ pub fn start(
                 &numbers,
                 variables,
             );
-            release(
-                p,
-                call.conversations,
-                call.count,
-                processes,
-                k,
-                line,
-                left - 1,
-                numbers.next as u32,
-            );
+            let next = numbers.next as u32;
+            release(p, call.conversations, call.count, processes, k, line, left - 1, next);
             Turn::Started
         }
     }
@@ -135,16 +127,8 @@ pub fn turn_into(
             );
             let ends = conversations_at(p, call.conversations, call.count, processes, k);
             let variables = call.expressions.max(head.variables) as usize;
-            begin(
-                processes,
-                k,
-                head.body as u32,
-                left - 1,
-                &ends,
-                call.count,
-                &numbers,
-                variables,
-            );
+            let body = head.body as u32;
+            begin(processes, k, body, left - 1, &ends, call.count, &numbers, variables);
             Turn::On
         }
     }

@@ -6,4 +6,4 @@ mod write;
 
 pub use sides::{Sides, both_sides};
 pub use tree::{Action, Expression, Mark, Point, Process};
-pub use write::write_program;
+pub use write::{write_marked, write_program};

@@ -1,6 +1,6 @@
 // A tree written as rows. Each function appends to `out` what the rows of its part are.
 ghost use Rattle.std.specs.Prelude.{[], ◌∷◌, ◌++◌, map, length, OnOk};
-ghost use Rattle.model.specs.Rows.{row_e, row_es, row_p, row_ps};
+ghost use Rattle.model.specs.Rows.{row_e, row_es, row_g, row_p, row_ps};
 ghost use Rattle.syntax.specs.Added.{Added};
 ghost use Rattle.syntax.specs.Marks.{Wrote, WroteProcess, WroteProcesses, WroteProgram, words_of};
 ghost use Rattle.syntax.specs.Meaning.{action_of, expression_of, expressions_of, point_of, points_of, process_of, processes_of, program_of};
@@ -242,7 +242,7 @@ fn write_processes(
 
 // The rows of a program: its points, the other side's of each, and its processes. Where each action begins is
 // marked, in the order of the rows.
-pub fn write_program(
+pub fn write_marked(
     points: &[Point],
     other: &[u32],
     procs: &[Process],
@@ -256,4 +256,18 @@ pub fn write_program(
     out.extend_from_slice(other)?;
     write_processes(procs, out, marks)?;
     Ok(())
+}
+
+// The rows of a program: its points, the other side's of each, and its processes.
+pub fn write_program(
+    points: &[Point],
+    other: &[u32],
+    procs: &[Process],
+    out: &mut Vec<u32>,
+) -> Result<(), AllocError>
+    ensures { Added result out.old.items out.new.items (row_g (program_of points.now other.now procs.now)) }
+{
+    let heap = *out.allocator();
+    let mut marks = Vec::new(heap);
+    write_marked(points, other, procs, out, &mut marks)
 }

@@ -6,7 +6,7 @@ ghost use Rattle.text.specs.RowsOf.{IndexedOf, RowsOf};
 use crate::indexed::Indexed;
 use parser::{Fault, Parsed, parse_text};
 use std::alloc::Global;
-use syntax::write_program;
+use syntax::write_marked;
 use trees::trees;
 
 // The rows of a text with its names and marks, or what is wrong with it. The rows are the writing of a program whose
@@ -24,7 +24,7 @@ pub fn read_indexed(heap: Global, text: &str) -> Result<Indexed, Fault>
     let procs = trees(heap, procs)?;
     let mut rows = Vec::new(heap);
     let mut marks = Vec::new(heap);
-    write_program(
+    write_marked(
         sides.points.as_slice(),
         sides.other.as_slice(),
         procs.as_slice(),

@@ -7,8 +7,9 @@ ghost use Rattle.turns.specs.Meeting.{Met, Exchanged, Giving, Choosing, Doing};
 
 use evaluation::expressions::evaluate;
 use records::process::{place, set_place, set_variable, variables};
-use rows::decode::{Instruction, talk_at};
+use rows::decode::Instruction;
 use rows::map::Map;
+use rows::narrow::talk_at;
 
 // Process i, which is at this instruction, and process j take a step together, if they are at what fits.
 pub fn exchange(

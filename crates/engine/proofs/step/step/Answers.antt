@@ -85,11 +85,11 @@ returns-else-run-most c = (
 
 pub returns-in-Off : goal.returns-in-Off
 returns-in-Off c = (
-  c.take-ring.ensures.within,
+  c.leave-ring.ensures.within,
   c.requires.room.count,
   λ g a old reads mapped run.
       went_off c.args.p.now c.args.map.now.second c.args.processes.now c.args.lines.now c.args.ready.now c.args.shown.now c.args.run g a old run c.draw_place-next.result.place c.look-i.result c.look-i.ensures
-      c.take-ring.new.words c.take-ring.result c.draw_place-next.result.order c.act.new.processes c.act.new.lines c.take-ring.ensures
+      c.leave-ring.new.words c.leave-ring.result c.draw_place-next.result.order c.act.new.processes c.act.new.lines c.leave-ring.ensures
       (c.in-Off.ensures g a (taken (queue_of c.args.ready.now c.args.run) c.draw_place-next.result.place) reads mapped (before c.args.p.now c.args.map.now.second c.args.processes.now c.args.lines.now c.args.ready.now c.args.shown.now c.args.run g a old run c.draw_place-next.result.place c.look-i.result c.look-i.ensures)),
 )
 

@@ -1,7 +1,7 @@
 use Rattle.std.proofs.Common.{vec_items, refl}
 use Rattle.std.proofs.lemmas.Slice.{pushed}
 use Rattle.syntax.proofs.Programs.{wrote_program}
-use Rattle.syntax.proofs.write.write_program.Goals as goal
+use Rattle.syntax.proofs.write.write_marked.Goals as goal
 use Rattle.syntax.specs.Marks.{words_of}
 
 pub returns : goal.returns

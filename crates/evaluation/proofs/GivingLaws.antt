@@ -1,5 +1,5 @@
 -- What the loops keep that give ends and numbers to a record, or take conversations from it.
-use Rattle.std.proofs.Common.{◌≡◌, ℕ, zero, suc, ◌+◌, ◌-◌, ◌*◌, ◌<◌, ◌≤◌, List, [], ◌∷◌, ◌++◌, length, get_or, sym, refl, ap, ◌∙◌, subst, append_assoc, append-nil, add-one, arith, length-append}
+use Rattle.std.proofs.Common.{◌≡◌, ℕ, ◌+◌, ◌<◌, ◌≤◌, List, [], ◌∷◌, ◌++◌, length, get_or, sym, refl, ap, ◌∙◌, append_assoc, append-nil, add-one, arith, length-append}
 use mathlib.Core.Option.{Option, none}
 use Rattle.model.specs.Program.{put}
 use Rattle.model.specs.Steps.{Endpoint, without}

@@ -1,16 +1,15 @@
 -- What the loops over handed numbers and conversations keep.
-use Rattle.std.proofs.Common.{◌≡◌, ℕ, zero, suc, ◌+◌, ◌-◌, ◌*◌, ◌<◌, ◌≤◌, max, ◌≢◌, List, [], ◌∷◌, ◌++◌, length, get_or, drop, set, Some, None, Option as Maybe, sym, refl, ap, ◌∙◌, subst, append_assoc, append-nil, add-one, arith, length-append, length-set, get_or-set_other, get_or-set_same}
+use Rattle.std.proofs.Common.{◌≡◌, ℕ, zero, suc, ◌+◌, ◌<◌, ◌≤◌, max, ◌≢◌, List, [], ◌∷◌, ◌++◌, length, get_or, drop, set, None, Option as Maybe, sym, refl, ap, ◌∙◌, append_assoc, append-nil, add-one, arith, length-append, length-set, get_or-set_other, get_or-set_same}
 use mathlib.Core.Option.{Option}
-use Rattle.model.specs.Program.{Expression, value, values}
+use Rattle.model.specs.Program.{Expression, values}
 use Rattle.model.specs.Steps.{Endpoint, pad, end, ends_of}
-use Rattle.model.specs.Rows.{row_e, row_es, deep_e, deep_es}
+use Rattle.model.specs.Rows.{row_e, row_es, deep_es}
 use Rattle.records.specs.declared.process.End.{End}
 use Rattle.records.specs.Tables.{table}
 use Rattle.records.specs.Records.{viewed}
 use Rattle.records.proofs.TableLaws.{table_same, table_snoc}
 use Rattle.evaluation.specs.declared.expressions.Valued.{Valued}
-use Rattle.evaluation.specs.Values.{Evaluated, Evaluates}
-use Rattle.evaluation.specs.declared.handed.Numbers.{Numbers}
+use Rattle.evaluation.specs.Values.{Evaluates}
 use Rattle.evaluation.specs.Handing.{NumbersAre, Numbered, listed}
 
 -- padding a table whose function is 0 behind it

@@ -1,13 +1,12 @@
 -- The value of an expression from its term and the values of its parts.
-use Rattle.std.proofs.Common.{◌≡◌, ℕ, zero, suc, ◌+◌, ◌-◌, ◌*◌, ◌%◌, ◌^◌, ◌<◌, ◌≤◌, max, List, [], ◌∷◌, ◌++◌, length, get_or, drop, Some, None, sym, refl, ap, ◌∙◌, subst, arith, length-append}
-use mathlib.Core.Option.{some, none}
-use Rattle.model.specs.Program.{nth, or, bit, Expression, num, var, value}
+use Rattle.std.proofs.Common.{◌≡◌, ℕ, zero, suc, ◌+◌, ◌-◌, ◌<◌, ◌≤◌, List, [], ◌∷◌, ◌++◌, length, get_or, Some, None, refl, ap, subst, arith, length-append}
+use Rattle.model.specs.Program.{Expression, value}
 use Rattle.model.specs.Rows.{row_e, deep_e}
 use Rattle.rows.specs.declared.decode.Operator.{Operator}
 use Rattle.rows.specs.declared.decode.Operator.TheVariants.{Sum, Difference, Product, Less}
 use Rattle.rows.specs.declared.decode.Term.{Term}
 use Rattle.rows.specs.declared.decode.Term.TheVariants.{Number, Variable, Pair}
-use Rattle.rows.specs.Decode.{term_at, operator_code, TermWords}
+use Rattle.rows.specs.Decode.{term_at, TermWords}
 use Rattle.rows.proofs.Terms.{operation, row_e_operation, deep_e_operation, TermStanding, at_num, at_var, at_pair}
 use Rattle.rows.proofs.ExpressionLaws.{shallow, no_term, term_there}
 use Rattle.evaluation.specs.declared.expressions.Valued.{Valued}

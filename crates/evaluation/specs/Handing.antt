@@ -1,5 +1,5 @@
 -- What is promised of numbers and conversations that are handed on.
-use Rattle.std.specs.Prelude.{◌≡◌, ℕ, ◌+◌, ◌≤◌, max, List, [], ◌∷◌, ◌++◌, length, drop, Some, None, slice_index, slice_index_or}
+use Rattle.std.specs.Prelude.{◌≡◌, ℕ, ◌+◌, ◌≤◌, max, List, ◌++◌, length, drop, None, slice_index, slice_index_or}
 use Rattle.std.proofs.Math.Option.{Option}
 use Rattle.model.specs.Program.{Expression, values}
 use Rattle.model.specs.Steps.{Endpoint, pad, without}

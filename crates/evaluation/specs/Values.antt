@@ -1,5 +1,5 @@
 -- What evaluation promises of the expression at a place.
-use Rattle.std.specs.Prelude.{◌≡◌, ℕ, ◌+◌, ◌-◌, ◌*◌, ◌%◌, ◌^◌, ◌≤◌, List, [], ◌∷◌, ◌++◌, length, drop, nat_lt}
+use Rattle.std.specs.Prelude.{◌≡◌, ℕ, ◌+◌, ◌-◌, ◌*◌, ◌%◌, ◌^◌, ◌≤◌, List, ◌++◌, length, drop, nat_lt}
 use Rattle.model.specs.Program.{nth, or, bit, Expression, value}
 use Rattle.model.specs.Rows.{row_e, deep_e}
 use Rattle.rows.specs.declared.decode.Operator.{Operator}

@@ -1,20 +1,18 @@
 -- The end at which a worker waits, by its instruction; and which ends a record has.
-use Rattle.std.proofs.Common.{◌≡◌, ℕ, zero, suc, ◌+◌, ◌*◌, ◌<◌, ◌≤◌, Bool, true, false, not, ◌⊎◌, List, [], ◌∷◌, ◌++◌, length, Some, None, sym, refl, ap, ◌∙◌, subst, inl, inr, arith}
+use Rattle.std.proofs.Common.{◌≡◌, ℕ, ◌+◌, ◌*◌, ◌<◌, ◌≤◌, List, length, Some, None, sym, refl, ap, ◌∙◌, inl, inr, arith}
 use mathlib.Core.Option.{Option, some, none}
 use Rattle.rows.specs.declared.decode.Instruction.{Instruction}
-use Rattle.rows.specs.declared.decode.Instruction.TheVariants.{Stop, Give, Take, Choose, Offer, Set, If, Show, Start, Become}
+use Rattle.rows.specs.declared.decode.Instruction.TheVariants.{Give, Take, Choose, Offer}
 use Rattle.rows.specs.Decode.{instruction_at}
-use Rattle.rows.proofs.Instructions.{CallIs, Standing, at_stop, at_give, at_take, at_choose, at_offer, at_set, at_if, at_show, at_start, at_become, instruction_found}
-use Rattle.model.specs.Program.{Action, bit}
+use Rattle.rows.proofs.Instructions.{Standing, at_stop, at_give, at_take, at_choose, at_offer, at_set, at_if, at_show, at_start, at_become, instruction_found}
+use Rattle.model.specs.Program.{Action}
 use Rattle.model.specs.Steps.{Endpoint, Worker, end}
-use Rattle.records.specs.declared.process.End.{End}
-use Rattle.records.specs.Records.{Record, record_at, viewed, endpoint, ends_at}
+use Rattle.records.specs.Records.{record_at}
 use Rattle.records.proofs.PushLaws.{end_past}
 use Rattle.turns.specs.Holding.{Holds}
 use Rattle.turns.specs.Scheduling.{wish, end_of, waiting}
 use Rattle.model.proofs.Lists.{below?}
 use Rattle.turns.proofs.Found.{standing}
-use Rattle.jams.specs.Told.{IsEnd}
 
 module _ (s m procs : List ℕ) (i at : ℕ) (w : Worker) (h : Holds s m (record_at procs i) w) (is_at : at ≡ (record_at procs i).place) where
   pub waits_none : None ≡ instruction_at s at → ⊥

@@ -1,16 +1,16 @@
 -- What an action comes to, from what its parts come to.
-use Rattle.std.proofs.Common.{◌≡◌, ℕ, zero, suc, ◌+◌, ◌-◌, ◌<◌, ◌≤◌, max, Bool, true, false, ◌&&◌, eqb, List, [], ◌∷◌, ◌++◌, length, drop, Some, None, Option, sym, refl, ap, ◌∙◌, subst, arith}
-use mathlib.Core.Option.{Option as Maybe, some, none}
+use Rattle.std.proofs.Common.{◌≡◌, ℕ, ◌<◌, Bool, true, false, ◌&&◌, eqb, List, [], ◌∷◌, ◌++◌, length, drop, Some, None, sym, refl, ap, ◌∙◌, arith}
+use mathlib.Core.Option.{some}
 use Rattle.rows.specs.declared.map.Map.{Map}
 use Rattle.rows.specs.Mapped.{Known}
 use Rattle.judging.specs.declared.conversations.Conversations.{Conversations}
-use Rattle.judging.specs.declared.course.Course.TheVariants.{Careless, Kept, On, Parted}
+use Rattle.judging.specs.declared.course.Course.TheVariants.{Careless, Kept, On}
 use Rattle.judging.specs.Judging.{VariablesSay, AllVariablesSay, NextSays}
 use Rattle.judging.specs.Following.{GiveSays, StartSays, becomes_well, StartLooks, BecomeLooks}
 use Rattle.judging.specs.Standing.{stand}
 use Rattle.rows.specs.declared.decode.Call.{Call}
-use Rattle.model.specs.Program.{nth, put, Program, Action, Expression, give}
-use Rattle.model.specs.Rows.{row_a, deep}
+use Rattle.model.specs.Program.{nth, put, Program, Expression}
+use Rattle.model.specs.Rows.{row_a}
 use Rattle.model.specs.Keeps.{At, then, moves, after_give, hands, first, rest, oks, keeps}
 use Rattle.model.proofs.Lists.{length_put}
 

@@ -1,6 +1,6 @@
 -- The array of conversations and the model's list of them.
-use Rattle.std.proofs.Common.{◌≡◌, ℕ, zero, suc, ◌+◌, ◌<◌, ◌≤◌, List, [], ◌∷◌, ◌++◌, map, length, get_or, take, set, Option, sym, refl, ap, ◌∙◌, add-one, arith}
-use mathlib.Core.Option.{Option as Maybe, some, none}
+use Rattle.std.proofs.Common.{◌≡◌, ℕ, zero, suc, ◌+◌, ◌<◌, ◌≤◌, List, [], ◌∷◌, ◌++◌, map, length, get_or, take, set, Option, refl, ap, add-one, arith}
+use mathlib.Core.Option.{Option as Maybe, none}
 use Rattle.judging.specs.Standing.{held}
 use Rattle.model.specs.Program.{nth, or, put}
 

@@ -1,10 +1,10 @@
 -- Handing on conversations one after the other, and going through those that are left.
-use Rattle.std.proofs.Common.{◌≡◌, ℕ, zero, suc, ◌+◌, ◌-◌, ◌<◌, ◌≤◌, Bool, true, false, cond, ◌&&◌, eqb, List, [], ◌∷◌, ◌++◌, map, length, get_or, take, drop, Some, None, Option, sym, refl, ap, ◌∙◌, subst, add-zero, add-one, arith, drop_of_length-le, eq-eqb, ne_eqb}
+use Rattle.std.proofs.Common.{◌≡◌, ℕ, zero, suc, ◌+◌, ◌-◌, ◌<◌, ◌≤◌, Bool, true, false, cond, ◌&&◌, List, [], ◌∷◌, ◌++◌, map, length, get_or, take, drop, Some, Option, sym, refl, ap, ◌∙◌, add-zero, add-one, arith, drop_of_length-le, eq-eqb, ne_eqb}
 use mathlib.Core.Option.{Option as Maybe, some, none}
 use Rattle.rows.specs.declared.map.Map.{Map}
 use Rattle.rows.specs.Mapped.{Known}
 use Rattle.rows.proofs.Places.{word_here, rest_at}
-use Rattle.judging.specs.Judging.{HandsSay, over_one}
+use Rattle.judging.specs.Judging.{over_one}
 use Rattle.judging.specs.Standing.{held}
 use Rattle.judging.proofs.Conversing.{stand_length}
 use Rattle.model.specs.Program.{nth, or, put, Program}

@@ -1,6 +1,6 @@
 -- Testing every point and every process, and the conversations with which a process begins.
-use Rattle.std.proofs.Common.{◌≡◌, ℕ, zero, suc, ◌+◌, ◌-◌, ◌<◌, ◌≤◌, Bool, true, false, ◌&&◌, eqb, List, [], ◌∷◌, ◌++◌, length, get_or, drop, Option, sym, refl, ap, ◌∙◌, subst, append_assoc, append-nil, add-zero, add-one, arith, length-append, drop_of_length-le}
-use mathlib.Core.Option.{Option as Maybe, some, none}
+use Rattle.std.proofs.Common.{◌≡◌, ℕ, zero, suc, ◌+◌, ◌<◌, ◌≤◌, Bool, true, false, ◌&&◌, eqb, List, [], ◌∷◌, ◌++◌, length, get_or, drop, Option, sym, refl, ap, ◌∙◌, subst, append_assoc, append-nil, add-zero, add-one, arith, length-append, drop_of_length-le}
+use mathlib.Core.Option.{some}
 use Rattle.rows.proofs.Places.{word_here, rest_at}
 use Rattle.rows.specs.declared.decode.Head.{Head}
 use Rattle.rows.specs.declared.map.Map.{Map}

@@ -1,14 +1,13 @@
 -- The variables of the expressions at a place.
-use Rattle.std.proofs.Common.{◌≡◌, ℕ, zero, suc, ◌+◌, ◌-◌, ◌<◌, ◌≤◌, max, Bool, true, false, ◌&&◌, ltb, List, [], ◌∷◌, ◌++◌, length, drop, Some, None, Option, sym, refl, ap, ◌∙◌, subst, append_assoc, arith, le-ltb, lt-ltb}
-use mathlib.Core.Bool.{and-false}
+use Rattle.std.proofs.Common.{◌≡◌, ℕ, ◌+◌, ◌-◌, ◌<◌, ◌≤◌, Bool, true, false, ◌&&◌, List, [], ◌∷◌, ◌++◌, length, drop, Some, None, Option, sym, refl, ap, ◌∙◌, subst, append_assoc, arith, le-ltb, lt-ltb}
 use Rattle.rows.specs.declared.decode.Term.{Term}
 use Rattle.rows.specs.declared.decode.Term.TheVariants.{Number, Variable, Pair}
 use Rattle.rows.specs.declared.decode.Operator.{Operator}
 use Rattle.rows.specs.Decode.{term_at, TermWords}
-use Rattle.rows.proofs.Terms.{operation, deep_e_operation, ok_operation, TermStanding, at_num, at_var, at_pair}
+use Rattle.rows.proofs.Terms.{deep_e_operation, ok_operation, TermStanding, at_num, at_var, at_pair}
 use Rattle.rows.proofs.ExpressionLaws.{shallow, no_term, term_there}
 use Rattle.judging.specs.Judging.{Verdict, Behind, VariablesSay, AllVariablesSay}
-use Rattle.model.specs.Program.{Expression, num, var}
+use Rattle.model.specs.Program.{Expression}
 use Rattle.model.specs.Rows.{row_e, row_es, deep_e, deep_es}
 use Rattle.model.specs.Keeps.{ok, oks}
 

@@ -1,21 +1,20 @@
 -- From what each kind of action comes to, to what the action at a place comes to; and what the walk over actions keeps.
-use Rattle.std.proofs.Common.{◌≡◌, ℕ, zero, suc, ◌+◌, ◌-◌, ◌<◌, ◌≤◌, max, Bool, true, false, ◌&&◌, List, [], ◌∷◌, ◌++◌, length, drop, Some, None, Option, sym, refl, ap, ◌∙◌, subst, arith}
+use Rattle.std.proofs.Common.{◌≡◌, ℕ, ◌+◌, ◌-◌, ◌<◌, ◌≤◌, Bool, ◌&&◌, List, ◌∷◌, ◌++◌, length, drop, Some, None, sym, refl, ap, ◌∙◌, subst, arith}
 use Rattle.rows.specs.declared.decode.Call.{Call}
 use Rattle.rows.specs.declared.decode.Instruction.{Instruction}
 use Rattle.rows.specs.declared.decode.Instruction.TheVariants.{Stop, Give, Take, Choose, Offer, Set, If, Show, Start, Become}
 use Rattle.rows.specs.declared.map.Map.{Map}
 use Rattle.rows.specs.Decode.{instruction_at, Words}
 use Rattle.rows.specs.Mapped.{Known}
-use Rattle.rows.proofs.Instructions.{CallIs, Standing, at_stop, at_give, at_take, at_choose, at_offer, at_set, at_if, at_show, at_start, at_become}
+use Rattle.rows.proofs.Instructions.{Standing, at_stop, at_give, at_take, at_choose, at_offer, at_set, at_if, at_show, at_start, at_become}
 use Rattle.rows.proofs.Passes.{no_instruction, there}
 use Rattle.judging.specs.declared.conversations.Conversations.{Conversations}
 use Rattle.judging.specs.declared.course.Course.{Course}
 use Rattle.judging.specs.declared.course.Course.TheVariants.{Careless, Kept, On, Parted}
-use Rattle.judging.specs.Following.{Decides, Decide2, Outcome, FollowSays, WalkSays, CourseFrom, CourseBehind, StopSays, GiveSays, TakeSays, ChooseSays, OfferSays, SetSays, IfSays, ShowSays, StartLooks, BecomeLooks}
-use Rattle.judging.specs.Judging.{Verdict}
+use Rattle.judging.specs.Following.{Decides, Outcome, FollowSays, WalkSays, CourseFrom, CourseBehind, StopSays, GiveSays, TakeSays, ChooseSays, OfferSays, SetSays, IfSays, ShowSays, StartLooks, BecomeLooks}
 use Rattle.judging.specs.Standing.{stand}
-use Rattle.model.specs.Program.{Expression, Action, stop, give, take, choose, offer, set, if, show, start, become, Program}
-use Rattle.model.specs.Rows.{row_e, row_es, row_a, deep, new}
+use Rattle.model.specs.Program.{Action, start, become, Program}
+use Rattle.model.specs.Rows.{row_es, row_a, deep, new}
 use Rattle.model.specs.Keeps.{At, keeps}
 
 pub course_behind : (s : List ℕ) (i v : ℕ) (c : Course) → CourseFrom s v c → i < v → v ≤ length s → CourseBehind s i c

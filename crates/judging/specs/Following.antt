@@ -10,7 +10,7 @@ use Rattle.judging.specs.declared.course.Course.{Course}
 use Rattle.judging.specs.declared.course.Course.TheVariants.{Careless, Kept, On, Parted}
 use Rattle.judging.specs.Judging.{Verdict}
 use Rattle.judging.specs.Standing.{stand}
-use Rattle.model.specs.Program.{nth, Expression, Action, stop, give, take, choose, offer, set, if, show, start, become, Process, Program}
+use Rattle.model.specs.Program.{nth, Expression, Action, stop, give, take, choose, offer, set, if, show, start, become, Program}
 use Rattle.model.specs.Rows.{row_e, row_es, row_a, deep_es, deep, new}
 use Rattle.model.specs.Keeps.{At, then, hands, first, rest, alike, all_over, keeps}
 

@@ -1,5 +1,5 @@
 -- What the judge promises of what it goes through.
-use Rattle.std.specs.Prelude.{◌≡◌, ℕ, ◌<◌, ◌≤◌, Bool, true, false, List, [], ◌∷◌, ◌++◌, length, drop, Some, None, Option}
+use Rattle.std.specs.Prelude.{◌≡◌, ℕ, ◌<◌, ◌≤◌, Bool, true, false, List, ◌++◌, length, drop, Some, None, Option}
 use Rattle.std.proofs.Math.Option.{Option as Maybe, some, none}
 use Rattle.rows.specs.declared.decode.PointKind.{PointKind}
 use Rattle.rows.specs.Decode.{said}

@@ -1,5 +1,5 @@
 -- The conversations of a process, as the model has them.
-use Rattle.std.specs.Prelude.{◌≡◌, ℕ, Bool, true, false, List, [], ◌∷◌, ◌++◌, map, length, take, Some, None, Option}
+use Rattle.std.specs.Prelude.{◌≡◌, ℕ, Bool, true, false, [], ◌∷◌, ◌++◌, map, length, take, Some, None, Option}
 use Rattle.std.proofs.Math.Option.{Option as Maybe, some, none}
 use Rattle.judging.specs.declared.conversations.Conversations.{Conversations}
 use Rattle.model.specs.Keeps.{At}

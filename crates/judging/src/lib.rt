@@ -1,4 +1,6 @@
 // Decides whether a program that was read keeps to its conversations.
+#![tactic(auto)]
+
 mod actions;
 mod calls;
 mod conversations;

@@ -2,20 +2,20 @@
 -- conversations or numbers.
 use mathlib.Core.Path.{◌≡◌, refl, sym, ap, ◌∙◌, subst}
 use mathlib.Core.Logic.{◌⊎◌, inl, inr}
-use mathlib.Core.Bool.{Bool, true, false, cond, ◌&&◌}
+use mathlib.Core.Bool.{Bool, true, false, cond}
 use mathlib.Core.List.{List, [], ◌∷◌, ◌++◌}
 use mathlib.Core.Option.{Option, some, none}
-use Prim.Native.Nat.{ℕ, zero, suc, ◌+◌, ◌≤◌, ◌<◌, max}
+use Prim.Native.Nat.{ℕ, zero, suc, ◌+◌, ◌≤◌, max}
 use native.Mathlib.Omega.{arith}
 use lib.ListN.{length, length-append}
 use lib.Dec.{eqb}
-use Rattle.model.specs.Program.{nth, or, put, Expression, Action, start, become, if, give, take, choose, offer, set, show, Process, Program, values}
+use Rattle.model.specs.Program.{nth, or, put, Expression, Action, start, become, Process, Program, values}
 use Rattle.model.specs.Keeps.{At, is, hands, kept}
 use Rattle.model.specs.Rows.{new, Fine, AllFine, Reads}
-use Rattle.model.specs.Steps.{Endpoint, Worker, Configuration, own_end, far_end, on, begun, first_worker, end, ends_of, without, Alone, stops, sets, ifs, shows, starts, becomes, starts_spent, becomes_spent, Together, passes, agrees, Step, alone, together, Steps, here, more, begin}
+use Rattle.model.specs.Steps.{Endpoint, Worker, Configuration, own_end, far_end, begun, first_worker, ends_of, without, Alone, stops, sets, ifs, shows, starts, becomes, starts_spent, becomes_spent, Together, passes, agrees, Step, alone, together, Steps, here, more, begin}
 use Rattle.model.specs.Picture.{places, KeepsOn}
 use Rattle.model.proofs.Lists.{length_put, nth_put_split, nth_append_split}
-use Rattle.model.proofs.Keeping.{next, Starts, Becomes, numbers_start, numbers_become, Good, good}
+use Rattle.model.proofs.Keeping.{next, numbers_start, numbers_become, Good, good}
 use Rattle.model.proofs.Sound.{Sound, reached_sound}
 
 -- handing on takes as many conversations as are wanted

@@ -5,7 +5,7 @@ use Prim.Native.Nat.{ℕ, ◌≤◌}
 use native.Mathlib.Omega.{arith}
 use lib.ListN.{length}
 use Rattle.model.specs.Program.{Point, over, gives, takes, chooses, offers, Expression, num, var, add, sub, mul, less, Action, stop, give, take, choose, offer, set, if, show, start, become, Process, Program}
-use Rattle.model.specs.Rows.{row_p, row_ps, row_e, row_es, row_a, row_r, row_rs, row_g, Reads}
+use Rattle.model.specs.Rows.{row_p, row_ps, row_e, row_es, row_a, row_r, row_rs, row_g}
 use Rattle.model.specs.Theorems.{OneProgram}
 
 -- the writing of a, whatever follows it, is that of no other

@@ -1,6 +1,6 @@
 -- Worked programs that the theorems are tried on.
 use Rattle.std.specs.Prelude.{List, [], ◌∷◌, ℕ}
-use Rattle.model.specs.Program.{Point, over, gives, takes, Expression, num, var, add, Action, stop, give, take, show, start, Process, Program}
+use Rattle.model.specs.Program.{Point, over, gives, takes, num, var, add, stop, give, take, show, start, Process, Program}
 
 -- points 0 to 3 as the till sees them: it takes two numbers, gives one, and the conversation is over; 4 to 7 as the clerk does
 abbrev pub counter_points : List Point

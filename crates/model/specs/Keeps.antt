@@ -2,7 +2,7 @@
 --
 -- A process is gone through with each of its conversations at a point. An action is allowed where the point says
 -- so, and moves the conversation on; `offer` and `if` are gone through both ways.
-use Rattle.std.specs.Prelude.{Bool, true, false, ◌&&◌, not, cond, List, [], ◌∷◌, ◌++◌, ℕ, zero, suc, ◌+◌, length, eqb, ltb}
+use Rattle.std.specs.Prelude.{Bool, true, false, ◌&&◌, not, cond, List, [], ◌∷◌, ◌++◌, ℕ, suc, length, eqb, ltb}
 use Rattle.std.proofs.Math.Option.{Option, some, none}
 use Rattle.model.specs.Program.{nth, or, put, Point, over, gives, takes, chooses, offers, Expression, num, var, add, sub, mul, less, Action, stop, give, take, choose, offer, set, if, show, start, become, Process, Program}
 

@@ -3,7 +3,7 @@
 -- A line is made by starting a process and has two ends, of side 0 (the starter's) and side 1 (the started one's).
 -- Communication is synchronous: a give and a take, or a choice and an offer, at the two ends of one line, is one
 -- step of both. Everything else is a step of one process alone.
-use Rattle.std.specs.Prelude.{◌≡◌, Bool, true, false, cond, List, [], ◌∷◌, ◌++◌, ℕ, zero, suc, ◌+◌, length, eqb}
+use Rattle.std.specs.Prelude.{◌≡◌, cond, List, [], ◌∷◌, ◌++◌, ℕ, zero, suc, ◌+◌, length, eqb}
 use Rattle.std.proofs.Math.Option.{Option, some, none}
 use Rattle.model.specs.Program.{nth, or, put, Expression, Action, stop, give, take, choose, offer, set, if, show, start, become, Process, Program, value, values}
 

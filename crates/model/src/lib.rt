@@ -1,5 +1,7 @@
 // The model has no code of its own: each function here carries a fact about the definitions of specs/, so that the
 // gate asks for its proof.
+#![tactic(auto)]
+
 ghost use Rattle.std.specs.Prelude.{true, false, ◌≡◌, length};
 ghost use Rattle.model.specs.Examples.{shop, hasty};
 ghost use Rattle.model.specs.Keeps.{kept};

@@ -1,7 +1,7 @@
 -- A ring with one more at its end, and with one taken out.
-use Rattle.std.proofs.Common.{◌≡◌, ℕ, zero, suc, ◌+◌, ◌-◌, ◌<◌, ◌≤◌, cond, ltb, ◌≢◌, List, [], ◌∷◌, ◌++◌, length, get_or, set, sym, refl, ap, ◌∙◌, add-one, arith, length-set, get_or-set_other, get_or-set_same}
-use mathlib.Core.Option.{Option, some, none}
-use Rattle.model.specs.Program.{nth, put}
+use Rattle.std.proofs.Common.{◌≡◌, ℕ, zero, suc, ◌+◌, ◌-◌, ◌<◌, ◌≤◌, ◌≢◌, List, [], ◌∷◌, ◌++◌, length, get_or, set, sym, refl, ap, ◌∙◌, add-one, arith, length-set, get_or-set_other, get_or-set_same}
+use mathlib.Core.Option.{some}
+use Rattle.model.specs.Program.{nth}
 use Rattle.records.specs.Tables.{table}
 use Rattle.records.proofs.TableLaws.{table_same, table_put, table_snoc, nth_table}
 use Rattle.queues.specs.declared.ring.Ring.{Ring}

@@ -1,12 +1,12 @@
 -- A record that begins, and one with a variable or an end more; how the fields are read.
-use Rattle.std.proofs.Common.{◌≡◌, ℕ, zero, suc, ◌+◌, ◌-◌, ◌*◌, ◌<◌, ◌≤◌, min, Bool, true, false, cond, not, eqb, ◌≢◌, List, [], ◌∷◌, ◌++◌, length, get_or, take, drop, set, sym, refl, ap, ◌∙◌, add-zero, add_assoc, arith, length-set, drop-cons, get_or-set_other, get_or-set_same}
+use Rattle.std.proofs.Common.{◌≡◌, ℕ, zero, suc, ◌+◌, ◌*◌, ◌<◌, ◌≤◌, min, Bool, not, eqb, List, [], ◌∷◌, ◌++◌, length, get_or, take, drop, set, sym, refl, ap, ◌∙◌, add_assoc, arith, length-set, drop-cons}
 use mathlib.Core.Option.{Option, some, none}
-use Rattle.model.specs.Program.{nth, put, or, bit}
-use Rattle.model.specs.Steps.{Endpoint, State, running, end}
+use Rattle.model.specs.Program.{or, bit}
+use Rattle.model.specs.Steps.{Endpoint, end}
 use Rattle.records.specs.Tables.{table}
-use Rattle.records.specs.Records.{Record, word, state_of, end_of, vars_at, ends_at, record_at, Kept, moved, spends, assigned, ended, cleared, with_end, with_number, begins}
-use Rattle.records.proofs.TableLaws.{table_same, table_put, table_snoc, length_table, nth_table, nth_table_past}
-use Rattle.records.proofs.RecordLaws.{vars_at_same, ends_at_same, record_at_same, Beside, kept, word_set_same, word_set_other, set_beside}
+use Rattle.records.specs.Records.{word, end_of, vars_at, ends_at, record_at, Kept, with_end, with_number, begins}
+use Rattle.records.proofs.TableLaws.{table_same, table_snoc, nth_table, nth_table_past}
+use Rattle.records.proofs.RecordLaws.{vars_at_same, ends_at_same, kept, word_set_same, word_set_other, set_beside}
 
 module _ (s : List ℕ) (i : ℕ) (room : 64 * i + 64 ≤ length s) where
   pub number_kept : (n v : ℕ) → n ≡ word s i 4 → n < 16 → Kept s (set (set s (64 * i + (16 + n)) v) (64 * i + 4) (n + 1)) i (with_number (record_at s i) v)

@@ -1,11 +1,11 @@
 -- A word written in a record: that record has one field changed, all others are as they were.
-use Rattle.std.proofs.Common.{◌≡◌, ℕ, zero, suc, ◌+◌, ◌-◌, ◌*◌, ◌<◌, ◌≤◌, min, true, false, cond, eqb, ◌≢◌, List, [], ◌∷◌, ◌++◌, length, get_or, set, sym, refl, ap, ◌∙◌, arith, length-set, get_or-set_other, get_or-set_same}
-use mathlib.Core.Option.{Option, some, none}
-use Rattle.model.specs.Program.{nth, put}
-use Rattle.model.specs.Steps.{Endpoint, State}
+use Rattle.std.proofs.Common.{◌≡◌, ℕ, zero, suc, ◌+◌, ◌*◌, ◌<◌, ◌≤◌, min, ◌≢◌, List, [], ◌∷◌, length, set, refl, ap, ◌∙◌, arith, length-set, get_or-set_other, get_or-set_same}
+use mathlib.Core.Option.{none}
+use Rattle.model.specs.Program.{put}
+use Rattle.model.specs.Steps.{State}
 use Rattle.records.specs.Tables.{table}
-use Rattle.records.specs.Records.{Record, word, state_of, end_of, vars_at, ends_at, record_at, Kept, moved, spends, assigned, ended, cleared, with_end, with_number, begins}
-use Rattle.records.proofs.TableLaws.{table_same, table_put, table_snoc, length_table, nth_table, nth_table_past}
+use Rattle.records.specs.Records.{Record, word, state_of, end_of, vars_at, ends_at, record_at, Kept, moved, spends, assigned, ended, cleared}
+use Rattle.records.proofs.TableLaws.{table_same, table_put, length_table}
 
 -- the words of the variables decide them, and those of the ends decide these
 pub vars_at_same : (s s' : List ℕ) (i : ℕ) → word s' i 4 ≡ word s i 4 → ((k : ℕ) → k < 16 → word s' i (16 + k) ≡ word s i (16 + k)) → vars_at s' i ≡ vars_at s i

@@ -1,6 +1,6 @@
 -- Laws of tables: their length and elements, tables that agree, one element changed, one more at the end.
-use Rattle.std.proofs.Common.{◌≡◌, ℕ, zero, suc, ◌+◌, ◌<◌, ◌≤◌, List, [], ◌∷◌, ◌++◌, length, sym, refl, ap, ◌∙◌, add-zero, add-suc, arith}
-use mathlib.Core.Option.{Option, some, none}
+use Rattle.std.proofs.Common.{◌≡◌, ℕ, zero, suc, ◌+◌, ◌<◌, ◌≤◌, [], ◌∷◌, ◌++◌, length, sym, refl, ap, ◌∙◌, add-zero, arith}
+use mathlib.Core.Option.{some, none}
 use Rattle.model.specs.Program.{nth, put}
 use Rattle.records.specs.Tables.{table}
 

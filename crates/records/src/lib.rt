@@ -1,2 +1,4 @@
 // Records of processes in lent words.
+#![tactic(auto)]
+
 pub mod process;

@@ -1,12 +1,12 @@
 -- The expression at a place, exactly: from its term, and the expressions that follow it.
-use Rattle.std.proofs.Common.{◌≡◌, ℕ, zero, suc, ◌+◌, ◌-◌, ◌<◌, ◌≤◌, max, List, [], ◌∷◌, ◌++◌, length, get_or, drop, Some, None, Option, sym, refl, ap, ◌∙◌, subst, append_assoc, arith, length-append, MatchOption}
+use Rattle.std.proofs.Common.{◌≡◌, ℕ, ◌+◌, ◌-◌, ◌<◌, ◌≤◌, List, ◌∷◌, ◌++◌, length, drop, Some, None, Option, sym, refl, ap, ◌∙◌, subst, append_assoc, arith, length-append}
 use Rattle.rows.specs.declared.decode.Term.{Term}
 use Rattle.rows.specs.declared.decode.Term.TheVariants.{Number, Variable, Pair}
 use Rattle.rows.specs.declared.decode.Operator.{Operator}
 use Rattle.rows.specs.Decode.{term_at, operator_code, TermWords}
 use Rattle.rows.specs.Reading.{ExpressionAt, NoExpression, ExpressionEnd}
 use Rattle.rows.proofs.Places.{drop_one, drop_two}
-use Rattle.rows.proofs.Terms.{operation, row_e_operation, deep_e_operation, TermStanding, at_num, at_var, at_pair, TermFound, term_found}
+use Rattle.rows.proofs.Terms.{operation, row_e_operation, deep_e_operation, TermStanding, at_pair, term_found}
 use Rattle.model.specs.Program.{Expression, num, var, add, sub, mul, less}
 use Rattle.model.specs.Rows.{row_e, deep_e}
 use Rattle.model.proofs.Writing.{row_e_prefix}

@@ -1,7 +1,6 @@
 -- The instruction at a place is exactly the beginning of the action that is written there.
-use Rattle.std.proofs.Common.{◌≡◌, ℕ, zero, suc, ◌+◌, ◌-◌, ◌<◌, ◌≤◌, Bool, true, false, cond, eqb, ltb, leb, List, [], ◌∷◌, ◌++◌, length, get_or, take as front, drop, Some, None, Option, sym, refl, ap, ◌∙◌, subst, append_assoc, add_assoc, arith, length-append, get_or-drop}
-use lib.Seq.{take-append_seam, drop-append_seam}
-use Rattle.std.specs.Option.{option_map}
+use Rattle.std.proofs.Common.{◌≡◌, ℕ, ◌+◌, List, ◌∷◌, ◌++◌, length, drop, Some, refl, ◌∙◌, append_assoc, arith, length-append}
+use lib.Seq.{drop-append_seam}
 use Rattle.rows.specs.declared.decode.Call.{Call}
 use Rattle.rows.specs.declared.decode.Instruction.{Instruction}
 use Rattle.rows.specs.declared.decode.Instruction.TheVariants.{Stop, Give, Take, Choose, Offer, Set, If, Show, Start, Become}

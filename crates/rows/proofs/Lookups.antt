@@ -1,16 +1,15 @@
 -- Looking up points and processes of a program that was read comes to those of the program.
-use Rattle.std.proofs.Common.{◌≡◌, ℕ, zero, suc, ◌+◌, ◌-◌, ◌<◌, ◌≤◌, List, [], ◌∷◌, ◌++◌, length, get_or, drop, IfSome, Some, None, Option, sym, refl, ap, ◌∙◌, subst, arith}
-use mathlib.Core.Option.{Option as Maybe, some, none}
+use Rattle.std.proofs.Common.{◌≡◌, ℕ, zero, suc, ◌+◌, ◌<◌, ◌≤◌, List, [], ◌∷◌, length, get_or, IfSome, Some, None, Option, sym, refl, ap, ◌∙◌, subst, arith}
+use mathlib.Core.Option.{some, none}
 use Rattle.rows.specs.declared.decode.Head.{Head}
 use Rattle.rows.specs.declared.decode.PointKind.{PointKind}
 use Rattle.rows.specs.declared.map.Map.{Map}
-use Rattle.rows.specs.Decode.{said, point_at, head_at, HeadWords}
+use Rattle.rows.specs.Decode.{point_at, head_at, HeadWords}
 use Rattle.rows.specs.Reading.{Seconds}
-use Rattle.rows.specs.Mapped.{Known, Mapped, HeadIs, ProcessAt, PointIs, OtherIs, ProcessFound, ProcessIs}
-use Rattle.rows.proofs.Places.{nth_get_d}
+use Rattle.rows.specs.Mapped.{Known, PointIs, ProcessFound, ProcessIs}
 use Rattle.rows.proofs.PointLaws.{point_found}
-use Rattle.rows.proofs.ProcessLaws.{head_there, head_found, head_made}
-use Rattle.model.specs.Program.{nth, Point, Process, Program}
+use Rattle.rows.proofs.ProcessLaws.{head_there, head_found}
+use Rattle.model.specs.Program.{nth, Program}
 use Rattle.model.proofs.Lists.{nth_there}
 
 pub nth_past : {A : Type 0} (xs : List A) (i : ℕ) → length xs ≤ i → nth xs i ≡ none

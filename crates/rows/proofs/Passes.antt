@@ -1,14 +1,14 @@
 -- What each instruction leads to: the action at a place, exactly, from the instruction that is found there.
-use Rattle.std.proofs.Common.{◌≡◌, ℕ, zero, suc, ◌+◌, ◌-◌, ◌<◌, ◌≤◌, max, List, [], ◌∷◌, ◌++◌, length, get_or, take as front, drop, Some, None, sym, refl, ap, ◌∙◌, subst, append_assoc, arith, length-append, length-drop, length-take}
+use Rattle.std.proofs.Common.{◌≡◌, ℕ, ◌+◌, ◌-◌, ◌<◌, ◌≤◌, List, [], ◌∷◌, ◌++◌, length, get_or, take as front, drop, Some, None, sym, refl, ap, ◌∙◌, subst, append_assoc, arith, length-append, length-drop, length-take}
 use Rattle.rows.specs.declared.decode.Call.{Call}
 use Rattle.rows.specs.declared.decode.Instruction.{Instruction}
 use Rattle.rows.specs.declared.decode.Instruction.TheVariants.{Stop, Give, Take, Choose, Offer, Set, If, Show, Start, Become}
 use Rattle.rows.specs.Decode.{instruction_at, Words, CallWords}
-use Rattle.rows.specs.Reading.{ExpressionAt, NoExpression, ExpressionsAt, NoExpressions, Seconds, ActionAt, NoAction, Stood, Written, Leads, TwoWays, Parting}
-use Rattle.rows.proofs.Places.{drop_one, drop_two, drop_three, rest_at, drop_list}
-use Rattle.rows.proofs.Instructions.{CallIs, Standing, at_stop, at_give, at_take, at_choose, at_offer, at_set, at_if, at_show, at_start, at_become, instruction_found}
-use Rattle.model.specs.Program.{Expression, Action, stop, give, take, choose, offer, set, if, show, start, become}
-use Rattle.model.specs.Rows.{row_e, row_es, row_a, deep_e, deep_es, deep, new}
+use Rattle.rows.specs.Reading.{ExpressionAt, NoExpression, ExpressionsAt, NoExpressions, Seconds, ActionAt, NoAction, Stood, Leads, TwoWays, Parting}
+use Rattle.rows.proofs.Places.{drop_one, drop_two, drop_three, drop_list}
+use Rattle.rows.proofs.Instructions.{Standing, at_give, at_take, at_choose, at_offer, at_set, at_if, at_show, at_start, at_become, instruction_found}
+use Rattle.model.specs.Program.{Action, stop, give, take, choose, offer, set, if, show, start, become}
+use Rattle.model.specs.Rows.{row_e, row_es, row_a, deep, new}
 use Rattle.model.proofs.Writing.{row_e_prefix, row_es_prefix}
 
 -- nothing found, no action

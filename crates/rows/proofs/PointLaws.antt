@@ -1,12 +1,12 @@
 -- Points at a place, exactly, and one after the other.
-use Rattle.std.proofs.Common.{◌≡◌, ℕ, zero, suc, ◌+◌, ◌-◌, ◌<◌, ◌≤◌, ◌≢◌, ◌⊎◌, List, [], ◌∷◌, ◌++◌, length, get_or, drop, set, Some, None, sym, refl, ap, ◌∙◌, subst, inl, inr, append_assoc, arith, length-append, length-set, get_or-set_other, get_or-set_same}
-use mathlib.Core.Option.{Option as Maybe, some}
+use Rattle.std.proofs.Common.{◌≡◌, ℕ, ◌+◌, ◌<◌, ◌≤◌, ◌≢◌, ◌⊎◌, List, [], ◌∷◌, ◌++◌, length, get_or, drop, set, Some, None, sym, refl, ap, ◌∙◌, subst, inl, inr, append_assoc, arith, length-append, get_or-set_other, get_or-set_same}
+use mathlib.Core.Option.{some}
 use Rattle.rows.specs.declared.decode.PointKind.{PointKind}
 use Rattle.rows.specs.declared.decode.PointKind.TheVariants.{Over, Gives, Takes, Chooses, Offers}
 use Rattle.rows.specs.Decode.{point_at, PointWords, said}
 use Rattle.rows.specs.Sections.{PointsAt, NoPoints}
-use Rattle.rows.proofs.Places.{word_at, word_here, words_left, rest_at, drop_one, drop_two, drop_three}
-use Rattle.rows.proofs.Series.{rows_snoc, Rest, rows_front}
+use Rattle.rows.proofs.Places.{word_at, word_here, words_left, drop_one, drop_two, drop_three}
+use Rattle.rows.proofs.Series.{rows_snoc, rows_front}
 use Rattle.model.specs.Program.{nth, Point, over, gives, takes, chooses, offers}
 use Rattle.model.specs.Rows.{row_p, row_ps}
 use Rattle.model.proofs.Lists.{nth_below, nth_snoc_split}

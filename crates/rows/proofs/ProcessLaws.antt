@@ -1,14 +1,14 @@
 -- The process at a place, exactly, from its beginning and the action behind it.
-use Rattle.std.proofs.Common.{◌≡◌, ℕ, zero, suc, ◌+◌, ◌-◌, ◌<◌, ◌≤◌, List, [], ◌∷◌, ◌++◌, length, get_or, take as front, drop, Some, None, Option, sym, refl, ap, ◌∙◌, subst, append_assoc, arith, length-append, length-drop, length-take}
+use Rattle.std.proofs.Common.{◌≡◌, ℕ, ◌+◌, ◌-◌, ◌<◌, ◌≤◌, List, ◌∷◌, ◌++◌, length, get_or, take as front, drop, Some, None, Option, sym, refl, ◌∙◌, subst, arith, length-append, length-drop, length-take}
 use lib.Seq.{drop-append_seam}
 use Rattle.rows.specs.declared.decode.Head.{Head}
 use Rattle.rows.specs.Decode.{head_at, HeadWords}
 use Rattle.rows.specs.Reading.{Seconds, ActionAt, NoAction, ActionEnd, SameBelow}
-use Rattle.rows.specs.Mapped.{ProcessAt, HeadIs}
+use Rattle.rows.specs.Mapped.{HeadIs}
 use Rattle.rows.specs.Sections.{ProcessTo, NoProcess, ProcessEnd}
 use Rattle.rows.proofs.Places.{word_at, word_here, words_left, rest_at, drop_one, drop_two, drop_list}
 use Rattle.model.specs.Program.{Process}
-use Rattle.model.specs.Rows.{row_a, row_r, deep, new, Fine}
+use Rattle.model.specs.Rows.{row_a, row_r}
 use Rattle.model.proofs.Writing.{row_r_row}
 
 pub head_made : ℕ → Process → Head

@@ -1,13 +1,13 @@
 -- Processes one after the other up to the end of the rows, and the whole program, exactly.
-use Rattle.std.proofs.Common.{◌≡◌, ℕ, zero, suc, ◌+◌, ◌-◌, ◌<◌, ◌≤◌, true, ◌≢◌, ◌⊎◌, List, [], ◌∷◌, ◌++◌, length, get_or, take as front, drop, set, sym, refl, ap, ◌∙◌, subst, inl, inr, append_assoc, append-nil, arith, length-append, length-drop, drop_of_length-le, length-take, get_or-drop, get_or-set_other, get_or-take, get_or-set_same, drop_at}
+use Rattle.std.proofs.Common.{◌≡◌, ℕ, suc, ◌+◌, ◌-◌, ◌<◌, ◌≤◌, true, ◌≢◌, ◌⊎◌, List, [], ◌∷◌, ◌++◌, length, get_or, take as front, drop, set, sym, refl, ap, ◌∙◌, subst, inl, inr, append-nil, arith, length-append, length-drop, drop_of_length-le, length-take, get_or-drop, get_or-set_other, get_or-take, get_or-set_same, drop_at}
 use mathlib.Core.Option.{some}
 use native.Mathlib.Decide.{dec_le}
-use Rattle.rows.specs.Reading.{Seconds, SameBelow}
+use Rattle.rows.specs.Reading.{SameBelow}
 use Rattle.rows.specs.declared.map.Map.{Map}
 use Rattle.rows.specs.Mapped.{ProcessAt, Mapped}
 use Rattle.rows.specs.Sections.{PointsAt, ProcessTo, NoProcess, ProcessesAt, NoProcesses, ReadSays}
 use Rattle.rows.proofs.Places.{rest_at, drop_one, drop_list, nth_get_d}
-use Rattle.rows.proofs.Series.{rows_snoc, Rest, rows_front}
+use Rattle.rows.proofs.Series.{rows_snoc, rows_front}
 use Rattle.rows.proofs.Walks.{seconds_same}
 use Rattle.model.specs.Program.{nth, Process, Program}
 use Rattle.model.specs.Rows.{row_ps, row_a, row_r, row_rs, Fine, AllFine, Reads}

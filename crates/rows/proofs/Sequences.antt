@@ -1,8 +1,8 @@
 -- Expressions one after the other, exactly: what a loop over them keeps.
-use Rattle.std.proofs.Common.{◌≡◌, ℕ, zero, suc, ◌+◌, ◌-◌, ◌<◌, ◌≤◌, max, List, [], ◌∷◌, ◌++◌, length, drop, sym, refl, ap, ◌∙◌, subst, append_assoc, arith, length-append}
+use Rattle.std.proofs.Common.{◌≡◌, ℕ, suc, ◌+◌, ◌-◌, ◌<◌, ◌≤◌, List, [], ◌∷◌, ◌++◌, length, drop, sym, refl, ap, ◌∙◌, append_assoc, arith, length-append}
 use Rattle.rows.specs.Reading.{ExpressionAt, NoExpression, ExpressionsAt, NoExpressions}
 use Rattle.model.specs.Program.{Expression}
-use Rattle.model.specs.Rows.{row_e, row_es, deep_e, deep_es}
+use Rattle.model.specs.Rows.{row_e, row_es, deep_es}
 use Rattle.model.proofs.Writing.{row_e_prefix}
 
 -- more expressions stand at a place

@@ -1,5 +1,5 @@
 -- Writings one after the other, for any kind of thing whose writing is prefix-free.
-use Rattle.std.proofs.Common.{◌≡◌, ℕ, zero, suc, ◌+◌, ◌<◌, ◌≤◌, List, [], ◌∷◌, ◌++◌, length, sym, refl, ap, ◌∙◌, append_assoc, arith}
+use Rattle.std.proofs.Common.{◌≡◌, ℕ, ◌≤◌, List, [], ◌∷◌, ◌++◌, length, sym, refl, ap, ◌∙◌, append_assoc, arith}
 
 module _ {A : Type 0} (row : A → List ℕ) (rows : List A → List ℕ) (nil : rows [] ≡ []) (cons : (a : A) (xs : List A) → rows (a ∷ xs) ≡ row a ++ rows xs) where
   -- one more at the end

@@ -1,6 +1,6 @@
 -- A give, take, choose or offer is found by itself exactly where it is found among all instructions; likewise a number or
 -- variable among all expressions.
-use Rattle.std.proofs.Common.{◌≡◌, ℕ, zero, suc, ◌+◌, ◌-◌, ◌<◌, ◌≤◌, List, Some, None, sym, refl, ap, ◌∙◌, subst, arith}
+use Rattle.std.proofs.Common.{◌≡◌, ℕ, List, Some, None, arith}
 use Rattle.rows.specs.declared.decode.Instruction.{Instruction}
 use Rattle.rows.specs.declared.decode.Instruction.TheVariants.{Stop, Give, Take, Choose, Offer, Set, If, Show, Start, Become}
 use Rattle.rows.specs.declared.decode.Term.{Term}

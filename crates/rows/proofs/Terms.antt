@@ -1,5 +1,5 @@
 -- The term at a place is exactly the beginning of the expression that is written there.
-use Rattle.std.proofs.Common.{◌≡◌, ℕ, zero, suc, ◌+◌, ◌-◌, ◌<◌, ◌≤◌, max, Bool, true, false, cond, ◌&&◌, eqb, ltb, leb, List, [], ◌∷◌, ◌++◌, length, get_or, drop, Some, None, Option, sym, refl, ap, ◌∙◌, append_assoc, arith}
+use Rattle.std.proofs.Common.{◌≡◌, ℕ, suc, ◌+◌, max, ◌&&◌, List, ◌∷◌, ◌++◌, drop, Some, refl, ◌∙◌, append_assoc, arith}
 use Rattle.rows.specs.declared.decode.Term.{Term}
 use Rattle.rows.specs.declared.decode.Term.TheVariants.{Number, Variable, Pair}
 use Rattle.rows.specs.declared.decode.Operator.{Operator}

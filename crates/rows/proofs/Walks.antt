@@ -1,9 +1,9 @@
 -- What the walk over an action keeps: what stood at its entry and what stands here are parts of one another, and the
 -- table has every second way that was passed.
-use Rattle.std.proofs.Common.{◌≡◌, ℕ, zero, suc, ◌+◌, ◌-◌, ◌<◌, ◌≤◌, max, ◌≢◌, List, [], ◌∷◌, ◌++◌, length, get_or, drop, set as set_list, sym, refl, ap, ◌∙◌, subst, append_assoc, arith, length-append, length-set, get_or-set_other, get_or-set_same}
+use Rattle.std.proofs.Common.{◌≡◌, ℕ, ◌+◌, ◌-◌, ◌<◌, ◌≤◌, ◌≢◌, List, ◌∷◌, ◌++◌, length, get_or, drop, set as set_list, sym, refl, ap, ◌∙◌, subst, arith, length-append, get_or-set_other, get_or-set_same}
 use Rattle.rows.specs.Reading.{Seconds, ActionAt, NoAction, SameBelow, Stood, Written, Leads, TwoWays, Parting}
-use Rattle.model.specs.Program.{Expression, Action, stop, give, take, choose, offer, set, if, show, start, become}
-use Rattle.model.specs.Rows.{row_e, row_es, row_a, deep, new}
+use Rattle.model.specs.Program.{Action, stop, give, take, choose, offer, set, if, show, start, become}
+use Rattle.model.specs.Rows.{row_e, row_es, row_a}
 use Rattle.model.proofs.Writing.{row_a_prefix}
 
 -- tables that agree on the words of an action

@@ -1,5 +1,5 @@
 -- What the reader yields besides its answer: where each point and each process begins, and where second ways begin.
-use Rattle.std.specs.Prelude.{◌≡◌, ℕ, ◌+◌, ◌<◌, ◌≤◌, List, [], ◌∷◌, ◌++◌, length, drop, Option, MatchOption, slice_index}
+use Rattle.std.specs.Prelude.{◌≡◌, ℕ, ◌+◌, ◌<◌, ◌≤◌, List, ◌∷◌, ◌++◌, length, drop, Option, MatchOption, slice_index}
 use Rattle.std.proofs.Math.Option.{some, none}
 use Rattle.rows.specs.declared.decode.Head.{Head}
 use Rattle.rows.specs.declared.decode.PointKind.{PointKind}

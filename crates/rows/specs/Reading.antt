@@ -1,6 +1,6 @@
 -- What the reader promises of a stretch of the rows: an expression, several, or an action stands there, within the
 -- limits; or none does.
-use Rattle.std.specs.Prelude.{◌≡◌, ℕ, zero, suc, ◌+◌, ◌-◌, ◌<◌, ◌≤◌, List, [], ◌∷◌, ◌++◌, length, drop, Option, MatchOption, slice_index}
+use Rattle.std.specs.Prelude.{◌≡◌, ℕ, ◌+◌, ◌-◌, ◌<◌, ◌≤◌, List, ◌++◌, length, drop, Option, MatchOption, slice_index}
 use Rattle.rows.specs.declared.actions.Pass.{Pass}
 use Rattle.rows.specs.declared.actions.Pass.TheVariants.{Fault, End, On, Fork}
 use Rattle.model.specs.Program.{Expression, Action, stop, give, take, choose, offer, set, if, show, start, become}

@@ -1,4 +1,6 @@
 // Reads rows of words: what stands at a place, and whether the whole is a program.
+#![tactic(auto)]
+
 mod actions;
 pub mod decode;
 mod expressions;

@@ -3,7 +3,7 @@ use Rattle.std.proofs.Common.{◌≡◌, ℕ, suc, ◌+◌, List, [], ◌∷◌,
 use Rattle.model.specs.Program as model
 use Rattle.model.specs.Rows.{row_a, row_e, row_es}
 use Rattle.std.specs.declared.alloc.Global.{Global}
-use Rattle.syntax.proofs.Added.{append_after, append_after_two, append_after_three}
+use Rattle.syntax.proofs.Added.{append_after, append_after_two}
 use Rattle.syntax.specs.Marks.{Wrote, begins}
 use Rattle.syntax.specs.Meaning.{action_of, expression_of, expressions_of}
 use Rattle.syntax.specs.declared.tree.Action.{Action, Give, Take, Choose, Offer, Set, If, Show, Start}

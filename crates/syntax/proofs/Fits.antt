@@ -1,5 +1,5 @@
 -- What both sides of protocols are, from what was written of each.
-use Rattle.std.proofs.Common.{◌≡◌, ℕ, ◌+◌, ◌<◌, true, false, ◌&&◌, ltb, List, [], ◌∷◌, ◌++◌, map, length, sym, refl, ap, ◌∙◌, subst, arith}
+use Rattle.std.proofs.Common.{◌≡◌, ℕ, ◌+◌, ◌<◌, true, false, ◌&&◌, ltb, List, [], ◌++◌, map, length, sym, ap, ◌∙◌, subst, arith}
 use Rattle.model.specs.Keeps.{points_fit}
 use Rattle.model.specs.Program as model
 use Rattle.std.proofs.lemmas.Bool.Decides.{nat_tests}

@@ -1,9 +1,9 @@
 -- The writings of the elements of a list, one after the other.
-use Rattle.std.proofs.Common.{◌≡◌, ℕ, suc, ◌+◌, ◌<◌, ◌≤◌, List, [], ◌∷◌, ◌++◌, map, length, get_or, take, sym, refl, ap, ◌∙◌, append_assoc, append-nil}
-use Rattle.model.specs.Rows.{row_e, row_es, row_g, row_p, row_ps, row_r, row_rs}
+use Rattle.std.proofs.Common.{◌≡◌, ℕ, suc, ◌+◌, ◌<◌, ◌≤◌, List, [], ◌∷◌, ◌++◌, length, get_or, take, sym, refl, ap, ◌∙◌, append_assoc, append-nil}
+use Rattle.model.specs.Rows.{row_e, row_es, row_g, row_p, row_ps, row_rs}
 use Rattle.std.proofs.lemmas.List.{take_more, take_all}
 use Rattle.syntax.proofs.Added.{append_after, append_after_three}
-use Rattle.syntax.specs.Meaning.{expression_of, expressions_of, point_of, points_of, process_of, processes_of, program_of}
+use Rattle.syntax.specs.Meaning.{expression_of, expressions_of, point_of, points_of, processes_of, program_of}
 use Rattle.syntax.specs.declared.tree.Expression.{Expression}
 use Rattle.syntax.specs.declared.tree.Point.{Point}
 use Rattle.syntax.specs.declared.tree.Process.{Process}

@@ -1,5 +1,5 @@
 -- Steps of the loops that write the other side of protocols.
-use Rattle.std.proofs.Common.{◌≡◌, ℕ, zero, suc, ◌+◌, ◌<◌, Bool, true, false, ◌&&◌, List, [], ◌∷◌, ◌++◌, map, length, get_or, take, sym, refl, ap, ◌∙◌, append_assoc, add-one, arith}
+use Rattle.std.proofs.Common.{◌≡◌, ℕ, zero, suc, ◌+◌, ◌<◌, true, false, List, [], ◌∷◌, ◌++◌, map, length, get_or, take, sym, ap, ◌∙◌, append_assoc, add-one, arith}
 use mathlib.Core.List.{map-append}
 use Rattle.model.specs.Program as model
 use Rattle.std.proofs.lemmas.List.{take_more}

@@ -1,9 +1,9 @@
 -- The points of two sides of which one is the mirror of the other fit.
-use Rattle.std.proofs.Common.{◌≡◌, ℕ, zero, suc, ◌+◌, ◌-◌, ◌<◌, ◌≤◌, Bool, true, false, cond, ◌&&◌, eqb, ltb, List, [], ◌∷◌, ◌++◌, map, length, sym, refl, ap, ◌∙◌, subst, add-zero, add-suc, zero-add, arith, length-append}
-use mathlib.Core.Option.{Option, some, none}
+use Rattle.std.proofs.Common.{◌≡◌, ℕ, zero, suc, ◌+◌, ◌-◌, ◌<◌, ◌≤◌, Bool, true, false, ◌&&◌, ltb, List, [], ◌∷◌, ◌++◌, map, length, sym, refl, ap, ◌∙◌, subst, add-zero, zero-add, arith, length-append}
+use mathlib.Core.Option.{Option, some}
 use lib.ListN.{length-map}
 use Rattle.std.proofs.lemmas.Bool.Decides.{nat_tests}
-use Rattle.model.specs.Keeps.{points_fit, mutual_sides, mutual_ways, faces, then, is, ways}
+use Rattle.model.specs.Keeps.{points_fit, mutual_sides, faces, then}
 use Rattle.model.specs.Program.{nth, Point, over, gives, takes, chooses, offers, Process, Program}
 use Rattle.syntax.specs.Mirror.{across, mirror, below, all_below, from}
 

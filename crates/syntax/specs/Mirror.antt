@@ -1,5 +1,5 @@
 -- The other side of protocols that are written from one side.
-use Rattle.std.specs.Prelude.{◌≡◌, ℕ, zero, suc, ◌+◌, ◌-◌, Bool, true, false, cond, not, ◌&&◌, List, [], ◌∷◌, ◌++◌, map, length, Some, None, vec_items, Option, nat_lt}
+use Rattle.std.specs.Prelude.{◌≡◌, ℕ, zero, suc, ◌+◌, ◌-◌, Bool, true, false, cond, ◌&&◌, List, [], ◌∷◌, ◌++◌, map, length, Some, None, vec_items, Option, nat_lt}
 use Rattle.model.specs.Keeps.{points_fit}
 use Rattle.syntax.specs.Meaning.{points_of}
 use Rattle.syntax.specs.declared.sides.Sides.{Sides}

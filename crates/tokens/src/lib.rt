@@ -1,4 +1,6 @@
 // A text cut into tokens, a place in it, and what is wrong with it.
+#![tactic(auto)]
+
 mod cursor;
 mod fault;
 mod lexer;

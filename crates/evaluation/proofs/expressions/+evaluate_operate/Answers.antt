@@ -1,5 +1,4 @@
-use Rattle.std.proofs.Common.{◌≡◌, arith}
-use Rattle.evaluation.specs.declared.expressions.Valued.{Valued}
+use Rattle.std.proofs.Common.{arith}
 use Rattle.rows.proofs.Talks.{leaf_found}
 use Rattle.evaluation.proofs.ValueLaws.{nothing_deep, nothing_there, number_value, variable_value, pair_value, number_within, variable_within, pair_within}
 use Rattle.evaluation.proofs.expressions.+evaluate_operate.Goals as goal

@@ -1,5 +1,5 @@
 use mathlib.Core.Option.{some, none}
-use Rattle.std.proofs.Common.{length, arith}
+use Rattle.std.proofs.Common.{arith}
 use Rattle.judging.specs.Standing.{stand}
 use Rattle.judging.proofs.CallLaws.{start_uneven, start_hands, start_refused, start_sideless, start_full, start_goes}
 use Rattle.judging.proofs.calls.after_start.Goals as goal

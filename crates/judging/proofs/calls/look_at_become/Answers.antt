@@ -1,4 +1,3 @@
-use Rattle.std.proofs.Common.{arith}
 use Rattle.judging.specs.Standing.{stand}
 use Rattle.judging.proofs.ActionLaws.{become_kept, become_careless}
 use Rattle.judging.proofs.calls.look_at_become.Goals as goal

@@ -1,4 +1,3 @@
-use Rattle.std.proofs.Common.{arith}
 use Rattle.judging.specs.Standing.{stand}
 use Rattle.judging.proofs.ActionLaws.{start_careless, start_on}
 use Rattle.judging.proofs.calls.look_at_start.Goals as goal

@@ -1,5 +1,4 @@
-use Rattle.std.proofs.Common.{subst, arith}
-use Rattle.rows.specs.Decode.{TermWords}
+use Rattle.std.proofs.Common.{arith}
 use Rattle.judging.proofs.VariableLaws.{deep_says, none_says, number_says, variable_says, variable_missing, first_missing, second_says, number_behind, variable_behind, second_behind}
 use Rattle.judging.proofs.variables.+variables_there.Goals as goal
 

@@ -1,4 +1,3 @@
-use Rattle.std.proofs.Common.{arith}
 use Rattle.rows.specs.declared.decode.Instruction.TheVariants.{Stop, Give, Take, Choose, Offer, Set, If, Show, Start, Become}
 use Rattle.judging.specs.Standing.{stand}
 use Rattle.judging.proofs.WalkLaws.{look_behind, call_listed, follow_none, follow_stop, follow_give, follow_take, follow_choose, follow_offer, follow_set, follow_if, follow_show, follow_start, follow_become}

@@ -1,4 +1,3 @@
-use Rattle.std.proofs.Common.{◌≡◌, arith}
 use Rattle.queues.proofs.RingLaws.{took}
 use Rattle.queues.proofs.ring.leave.Goals as goal
 

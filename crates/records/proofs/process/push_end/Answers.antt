@@ -1,4 +1,4 @@
-use Rattle.std.proofs.Common.{◌≡◌, ◌+◌, ◌<◌, min, length, arith}
+use Rattle.std.proofs.Common.{◌+◌, min, arith}
 use Rattle.records.specs.Records.{word, end_of, viewed}
 use Rattle.records.proofs.TableLaws.{length_table}
 use Rattle.records.proofs.PushLaws.{end_kept}

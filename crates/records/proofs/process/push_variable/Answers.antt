@@ -1,4 +1,4 @@
-use Rattle.std.proofs.Common.{◌+◌, ◌<◌, min, arith}
+use Rattle.std.proofs.Common.{◌+◌, min, arith}
 use Rattle.records.specs.Records.{word}
 use Rattle.records.proofs.TableLaws.{length_table}
 use Rattle.records.proofs.PushLaws.{number_kept}

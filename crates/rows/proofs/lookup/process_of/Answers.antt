@@ -1,4 +1,4 @@
-use Rattle.std.proofs.Common.{arith, rules}
+use Rattle.std.proofs.Common.{arith}
 use Rattle.rows.proofs.Lookups.{no_process, process_is, head_within}
 use Rattle.rows.proofs.lookup.process_of.Goals as goal
 

@@ -1,4 +1,3 @@
-use Rattle.std.proofs.Common.{◌≤◌}
 use Rattle.rows.specs.Sections.{PointsAt}
 use Rattle.rows.proofs.sections.points_end.Given as goal
 

@@ -1,4 +1,4 @@
-use Rattle.std.proofs.Common.{[], ◌++◌, vec_items, sym, refl, ap, ◌∙◌}
+use Rattle.std.proofs.Common.{vec_items, sym}
 use Rattle.std.proofs.lemmas.Slice.{pushed}
 use Rattle.syntax.proofs.Fits.{astray, made_sides, too_many}
 use Rattle.syntax.proofs.sides.both_sides.Goals as goal

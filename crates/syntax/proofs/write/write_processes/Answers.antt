@@ -1,5 +1,5 @@
 use Rattle.std.proofs.Common.{vec_items}
-use Rattle.syntax.proofs.Programs.{wrote_all, wrote_more, wrote_none}
+use Rattle.syntax.proofs.Programs.{wrote_all, wrote_more}
 use Rattle.syntax.proofs.write.write_processes.Goals as goal
 use Rattle.syntax.specs.Marks.{words_of}
 

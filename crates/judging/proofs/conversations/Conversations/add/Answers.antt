@@ -1,4 +1,4 @@
-use Rattle.std.proofs.Common.{Some, refl, ◌∙◌, arith}
+use Rattle.std.proofs.Common.{Some, refl, arith}
 use Rattle.judging.proofs.Conversing.{stand_length, stand_add}
 use Rattle.judging.proofs.conversations.Conversations.add.Goals as goal
 

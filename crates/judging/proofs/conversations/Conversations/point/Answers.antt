@@ -1,4 +1,4 @@
-use Rattle.std.proofs.Common.{None, sym, ◌∙◌, arith}
+use Rattle.std.proofs.Common.{None, sym, arith}
 use Rattle.judging.proofs.Conversing.{stand_nth, stand_past}
 use Rattle.judging.proofs.conversations.Conversations.point.Goals as goal
 

@@ -1,4 +1,6 @@
 // What processes do, read into parts: expressions, and actions one after the other.
+#![tactic(auto)]
+
 mod actions;
 mod expressions;
 mod parts;

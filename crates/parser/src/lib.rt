@@ -1,4 +1,6 @@
 // The readable text of programs, read into a tree.
+#![tactic(auto)]
+
 mod parse;
 mod processes;
 

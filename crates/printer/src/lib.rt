@@ -1,5 +1,7 @@
 // Rows printed as text, with invented names: protocols P0, P1, ..; processes p0, p1, ..; conversations c0, c1, ..;
 // variables v0, v1, ..; the ways `first` and `second`.
+#![tactic(auto)]
+
 ghost use Rattle.printer.specs.EndsLine.{EndsLine};
 ghost use Rattle.std.specs.Prelude.{IfOk};
 

@@ -1,4 +1,6 @@
 // The names of a text and where each stands, and its protocols, read into points.
+#![tactic(auto)]
+
 mod protocols;
 mod survey;
 

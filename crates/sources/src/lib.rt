@@ -1,4 +1,6 @@
 // What programs read: texts, and lines of rows, from files or the standard input; and what is said where they cannot.
+#![tactic(auto)]
+
 mod command;
 mod failed;
 mod indexed;

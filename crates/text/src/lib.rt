@@ -1,4 +1,6 @@
 // The readable text of programs: read into rows, with the place of what is wrong, and printed from rows.
+#![tactic(auto)]
+
 mod indexed;
 mod place;
 mod print;

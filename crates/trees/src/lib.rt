@@ -1,4 +1,6 @@
 // The trees of what processes do, from the parts that are read.
+#![tactic(auto)]
+
 use actions::{Act, Flat, Fork, Handed, Part, Step};
 use std::alloc::{AllocError, Global};
 use syntax::{Action, Process};

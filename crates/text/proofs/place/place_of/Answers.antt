@@ -1,4 +1,4 @@
-use Rattle.std.proofs.Common.{◌≡◌, ◌<◌, ◌≤◌, length, ap, arith}
+use Rattle.std.proofs.Common.{◌<◌, ◌≤◌, length, ap, arith}
 use native.Mathlib.Nat.{min-le_right}
 use Rattle.text.proofs.Bytes.{spot_end, spot_more}
 use Rattle.text.proofs.place.place_of.Goals as goal

@@ -2,6 +2,7 @@
 ghost use Rattle.std.specs.Prelude.{◌≡◌, ◌+◌, ◌-◌, ◌*◌, ◌^◌, ◌<◌, ◌≤◌, length};
 ghost use Rattle.rows.specs.declared.decode.Instruction.TheVariants.{Start, Become};
 ghost use Rattle.turns.specs.Meeting.{Doing};
+ghost use Rattle.turns.specs.Turning.{Unwritten};
 ghost use Rattle.starting.specs.Begins.{Begins, Settles};
 
 use crate::begin::{begin, begin_started, release};
@@ -30,6 +31,7 @@ pub fn start(
     requires doing { Doing p.now processes.old i (Start call) }
     ensures begins { Begins p.now map.now processes.old processes.new most count i result }
     ensures settles { Settles p.now map.now processes.old i call result }
+    ensures unwritten { Unwritten processes.old processes.new result }
 {
     let k = i as usize;
     let left = turns(processes, k);
@@ -99,6 +101,7 @@ pub fn turn_into(
     requires doing { Doing p.now processes.old i (Become call) }
     ensures begins { Begins p.now map.now processes.old processes.new most count i result }
     ensures settles { Settles p.now map.now processes.old i call result }
+    ensures unwritten { Unwritten processes.old processes.new result }
 {
     let k = i as usize;
     let left = turns(processes, k);

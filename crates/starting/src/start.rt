@@ -79,7 +79,16 @@ pub fn start(
                 variables,
             );
             let next = numbers.next as u32;
-            release(p, call.conversations, call.count, processes, k, line, left - 1, next);
+            release(
+                p,
+                call.conversations,
+                call.count,
+                processes,
+                k,
+                line,
+                left - 1,
+                next,
+            );
             Turn::Started
         }
     }
@@ -131,7 +140,16 @@ pub fn turn_into(
             let ends = conversations_at(p, call.conversations, call.count, processes, k);
             let variables = call.expressions.max(head.variables) as usize;
             let body = head.body as u32;
-            begin(processes, k, body, left - 1, &ends, call.count, &numbers, variables);
+            begin(
+                processes,
+                k,
+                body,
+                left - 1,
+                &ends,
+                call.count,
+                &numbers,
+                variables,
+            );
             Turn::On
         }
     }

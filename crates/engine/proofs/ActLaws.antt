@@ -10,8 +10,10 @@ use Rattle.rows.proofs.Instructions.{CallIs, Standing, at_stop, at_give, at_take
 use Rattle.model.specs.Program.{nth, Program, Action}
 use Rattle.model.specs.Steps.{Worker, Configuration}
 use Rattle.records.specs.Records.{record_at}
+use Rattle.turns.specs.declared.turn.Turn.{Turn}
+use Rattle.turns.specs.declared.turn.Turn.TheVariants.{On, Shown, Both, Started, Off, Crowded, Odd}
 use Rattle.turns.specs.Scheduling.{wish}
-use Rattle.turns.specs.Turning.{Before}
+use Rattle.turns.specs.Turning.{Before, Unwritten, Goes}
 use Rattle.turns.specs.Meeting.{Doing}
 use Rattle.turns.proofs.Queue.{in_here}
 use Rattle.turns.proofs.Found.{standing}
@@ -55,3 +57,13 @@ nothing_else s at (If v) n e a b c d f g = c v refl
 nothing_else s at (Show v) n e a b c d f g = d v refl
 nothing_else s at (Start x) n e a b c d f g = f x refl
 nothing_else s at (Become x) n e a b c d f g = g x refl
+
+-- who goes on is not odd
+pub goes_unwritten : (procs procs' : List ℕ) (t : Turn) → Goes t → Unwritten procs procs' t
+goes_unwritten procs procs' On h = tt
+goes_unwritten procs procs' (Shown v) h = tt
+goes_unwritten procs procs' (Both j) h = absurd h
+goes_unwritten procs procs' Started h = absurd h
+goes_unwritten procs procs' Off h = absurd h
+goes_unwritten procs procs' Crowded h = absurd h
+goes_unwritten procs procs' Odd h = absurd h

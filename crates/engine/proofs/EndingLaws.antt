@@ -10,7 +10,7 @@ use Rattle.turns.specs.Turning.{Oddness, OneMore}
 use Rattle.turns.proofs.Moves.{still}
 use Rattle.engine.specs.declared.step.Run.{Run}
 use Rattle.engine.specs.Running.{Room, Running, Went, queue_of}
-use Rattle.engine.specs.Ending.{Reached, Finished, TooMany, Midway, Written}
+use Rattle.engine.specs.Ending.{Reached, Finished, TooMany, Strange, Midway, Written}
 
 pub steps_then : {g : Program} {a b c : Configuration} → Steps g a b → Steps g b c → Steps g a c
 steps_then x here = x
@@ -39,14 +39,17 @@ module _ (s m : List ℕ) (g : Program) (old procs lines ready shown : List ℕ)
         total_is = d.running.total;
       }
 
-  pub reached_crowded : (most : ℕ) (shown' : List ℕ) → OneMore g d.now r.count × (most ≤ r.count) × (shown' ≡ shown) → TooMany g most a × Written g old shown' a
-  reached_crowded most shown' o =
-      let k = o.0.many in
-      let l = o.1 in
-      (record { now = o.0.now; steps = more d.steps o.0.step; many = omega arith }, record { now = d.now; steps = d.steps; written = o.2 ∙ d.running.written })
+  pub reached_crowded : (most : ℕ) → OneMore g d.now r.count × (most ≤ r.count) → TooMany g most a
+  reached_crowded most o = let k = o.0.many in let l = o.1 in record { now = o.0.now; steps = more d.steps o.0.step; many = omega arith }
 
-  pub reached_odd : (most : ℕ) (procs' shown' : List ℕ) → r.count ≤ most → Oddness g d.now × (procs' ≡ procs) × (shown' ≡ shown) → (x : Midway s m g most old procs' shown' r.count r.total a) × Oddness g x.now
-  reached_odd most procs' shown' few o = (
-    record { now = d.now; steps = d.steps; holding = subst (λ (p : List ℕ). Holding s m p r.count d.now) (sym o.1) d.running.holding; few = few; written = o.2 ∙ d.running.written; total_is = d.running.total },
-    o.0,
+  pub reached_odd : Oddness g d.now → Strange g a
+  reached_odd o = record { now = d.now; steps = d.steps; odd = o }
+
+  pub tells_crowded : (shown' : List ℕ) → shown' ≡ shown → Written g old shown' a
+  tells_crowded shown' same = record { now = d.now; steps = d.steps; written = same ∙ d.running.written }
+
+  pub tells_odd : (most : ℕ) (procs' shown' : List ℕ) → r.count ≤ most → Oddness g d.now → (procs' ≡ procs) × (shown' ≡ shown) → (x : Midway s m g most old procs' shown' r.count r.total a) × Oddness g x.now
+  tells_odd most procs' shown' few o same = (
+    record { now = d.now; steps = d.steps; holding = subst (λ (p : List ℕ). Holding s m p r.count d.now) (sym same.0) d.running.holding; few = few; written = same.1 ∙ d.running.written; total_is = d.running.total },
+    o,
   )

@@ -50,6 +50,22 @@ pub record Strange (g : Program) (a : Configuration) : Type 0 where
   pub steps : Steps g a now
   pub odd : Oddness g now
 
+abbrev pub Ending : List ℕ → List ℕ → Program → ℕ → List ℕ → List ℕ → List ℕ → Configuration → Ended → Type 0
+Ending s second g most old procs shown a (EndedStill count total) = Finished s second g most old procs shown count total a
+Ending s second g most old procs shown a Crowded = TooMany g most a
+Ending s second g most old procs shown a (Odd count total) = Strange g a
+
+-- for every program that the words are the writing of, and every configuration that they hold at first
+abbrev pub Endings : List ℕ → Map → ℕ → List ℕ → List ℕ → List ℕ → List ℕ → List ℕ → List ℕ → Run → Ended → Type 0
+Endings s m most procs lines ready shown procs' shown' r e =
+    (g : Program) (a : Configuration) (old : List ℕ) → Reads s g → Mapped s g m → Running s m.second g old procs lines ready shown r a → Ending s m.second g most old procs' shown' a e
+
+-- as many processes as there may be
+abbrev pub Fitting : ℕ → Ended → Type 0
+Fitting most (EndedStill count total) = count ≤ most
+Fitting most Crowded = Unit {0}
+Fitting most (Odd count total) = Unit {0}
+
 -- before the end: some steps have led to a configuration that the words hold
 pub record Midway (s second : List ℕ) (g : Program) (most : ℕ) (old procs shown : List ℕ) (count total : ℕ) (a : Configuration) : Type 0 where
   pub now : Configuration
@@ -65,18 +81,19 @@ pub record Written (g : Program) (old shown : List ℕ) (a : Configuration) : Ty
   pub steps : Steps g a now
   pub written : shown ≡ overlay now.shown old
 
-abbrev pub Ending : List ℕ → List ℕ → Program → ℕ → List ℕ → List ℕ → List ℕ → Configuration → Ended → Type 0
-Ending s second g most old procs shown a (EndedStill count total) = Finished s second g most old procs shown count total a
-Ending s second g most old procs shown a Crowded = TooMany g most a × Written g old shown a
-Ending s second g most old procs shown a (Odd count total) = (d : Midway s second g most old procs shown count total a) × Oddness g d.now
+-- what is told where a run does not come to its end: the numbers shown on the way, and where something is odd, all that the words hold
+abbrev pub Telling : List ℕ → List ℕ → Program → ℕ → List ℕ → List ℕ → List ℕ → Configuration → Ended → Type 0
+Telling s second g most old procs shown a (EndedStill count total) = Unit {0}
+Telling s second g most old procs shown a Crowded = Written g old shown a
+Telling s second g most old procs shown a (Odd count total) = (d : Midway s second g most old procs shown count total a) × Oddness g d.now
 
--- for every program that the words are the writing of, and every configuration that they hold at first
-abbrev pub Endings : List ℕ → Map → ℕ → List ℕ → List ℕ → List ℕ → List ℕ → List ℕ → List ℕ → Run → Ended → Type 0
-Endings s m most procs lines ready shown procs' shown' r e =
-    (g : Program) (a : Configuration) (old : List ℕ) → Reads s g → Mapped s g m → Running s m.second g old procs lines ready shown r a → Ending s m.second g most old procs' shown' a e
+-- the same for every program that the words are the writing of, and every configuration that they hold at first
+abbrev pub Tellings : List ℕ → Map → ℕ → List ℕ → List ℕ → List ℕ → List ℕ → List ℕ → List ℕ → Run → Ended → Type 0
+Tellings s m most procs lines ready shown procs' shown' r e =
+    (g : Program) (a : Configuration) (old : List ℕ) → Reads s g → Mapped s g m → Running s m.second g old procs lines ready shown r a → Telling s m.second g most old procs' shown' a e
 
--- as many processes as there may be
-abbrev pub Fitting : ℕ → Ended → Type 0
-Fitting most (EndedStill count total) = count ≤ most
-Fitting most Crowded = Unit {0}
-Fitting most (Odd count total) = count ≤ most
+-- where something is odd, there are no more processes than there may be
+abbrev pub OddFitting : ℕ → Ended → Type 0
+OddFitting most (EndedStill count total) = Unit {0}
+OddFitting most Crowded = Unit {0}
+OddFitting most (Odd count total) = count ≤ most

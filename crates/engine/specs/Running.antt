@@ -66,6 +66,14 @@ abbrev pub Right : List ℕ → Map → ℕ → List ℕ → List ℕ → List �
 Right s m most procs lines ready shown procs' lines' ready' shown' r (Go r') = Within ready' r'.ring × (r'.count ≤ most) ×
     ((g : Program) (a : Configuration) (old : List ℕ) → Reads s g → Mapped s g m → Running s m.second g old procs lines ready shown r a → Went s m.second g old procs procs' lines' ready' shown' r r' a)
 Right s m most procs lines ready shown procs' lines' ready' shown' r Crowded =
-    (g : Program) (a : Configuration) (old : List ℕ) → Reads s g → Mapped s g m → Running s m.second g old procs lines ready shown r a → OneMore g a r.count × (most ≤ r.count) × (shown' ≡ shown)
+    (g : Program) (a : Configuration) (old : List ℕ) → Reads s g → Mapped s g m → Running s m.second g old procs lines ready shown r a → OneMore g a r.count × (most ≤ r.count)
 Right s m most procs lines ready shown procs' lines' ready' shown' r Odd =
-    (g : Program) (a : Configuration) (old : List ℕ) → Reads s g → Mapped s g m → Running s m.second g old procs lines ready shown r a → Oddness g a × (procs' ≡ procs) × (shown' ≡ shown)
+    (g : Program) (a : Configuration) (old : List ℕ) → Reads s g → Mapped s g m → Running s m.second g old procs lines ready shown r a → Oddness g a
+
+-- where the run does not go on, the numbers shown are as they were, and what is odd is found before anything is written
+abbrev pub Leaves : List ℕ → Map → List ℕ → List ℕ → List ℕ → List ℕ → List ℕ → List ℕ → Run → Stepped → Type 0
+Leaves s m procs lines ready shown procs' shown' r (Go r') = Unit {0}
+Leaves s m procs lines ready shown procs' shown' r Crowded =
+    (g : Program) (a : Configuration) (old : List ℕ) → Reads s g → Mapped s g m → Running s m.second g old procs lines ready shown r a → shown' ≡ shown
+Leaves s m procs lines ready shown procs' shown' r Odd =
+    (g : Program) (a : Configuration) (old : List ℕ) → Reads s g → Mapped s g m → Running s m.second g old procs lines ready shown r a → (procs' ≡ procs) × (shown' ≡ shown)

@@ -3,7 +3,7 @@ ghost use Rattle.std.specs.Prelude.{◌≡◌, ◌+◌, ◌*◌, ◌^◌, ◌<�
 ghost use Rattle.rows.specs.Decode.{talk_at};
 ghost use Rattle.records.specs.Records.{record_at};
 ghost use Rattle.starting.specs.Begins.{Begins};
-ghost use Rattle.turns.specs.Turning.{Turns};
+ghost use Rattle.turns.specs.Turning.{Turns, Unwritten};
 
 use records::process::place;
 use rows::decode::{Instruction, instruction_at};
@@ -30,7 +30,8 @@ pub fn act(
     requires code { most < 2 ^ 32 }
     requires records { 64 * most ≤ length processes.old }
     requires sides { 2 * most ≤ length lines.old }
-    ensures { Turns p.now map.now processes.old lines.old processes.new lines.new most count i result }
+    ensures turns { Turns p.now map.now processes.old lines.old processes.new lines.new most count i result }
+    ensures unwritten { Unwritten processes.old processes.new result }
 {
     match talk_at(p, place(processes, i as usize)) {
         Some(what) => communicate(
@@ -55,7 +56,8 @@ fn act_alone(p: &[u32], map: &Map, processes: &mut [u32], most: usize, count: us
     requires code { most < 2 ^ 32 }
     requires records { 64 * most ≤ length processes.old }
     requires alone { None ≡ talk_at p.now (record_at processes.old i).place }
-    ensures { Begins p.now map.now processes.old processes.new most count i result }
+    ensures begins { Begins p.now map.now processes.old processes.new most count i result }
+    ensures unwritten { Unwritten processes.old processes.new result }
 {
     match instruction_at(p, place(processes, i as usize)) {
         None => Turn::Off,

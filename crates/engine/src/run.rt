@@ -5,7 +5,7 @@
 // the two ends of a line can take a step together. So when the queue is empty, no step is possible.
 ghost use Rattle.std.specs.Prelude.{◌≡◌, ◌+◌, ◌*◌, ◌^◌, ◌<◌, ◌≤◌, length};
 ghost use Rattle.engine.specs.Running.{Room};
-ghost use Rattle.engine.specs.Ending.{Held, Endings, Fitting};
+ghost use Rattle.engine.specs.Ending.{Held, Endings, Tellings, Fitting, OddFitting};
 
 use crate::step::{Run, Stepped, step};
 use rows::map::Map;
@@ -34,7 +34,9 @@ pub fn run_on(
     requires room { Room most processes.old lines.old ready.old from }
     requires held { Held p.now map.now processes.old lines.old ready.old shown.old from }
     ensures ends { Endings p.now map.now most processes.old lines.old ready.old shown.old processes.new shown.new from result }
+    ensures tells { Tellings p.now map.now most processes.old lines.old ready.old shown.old processes.new shown.new from result }
     ensures fits { Fitting most result }
+    ensures odd_fits { OddFitting most result }
 {
     let mut now = from;
     'turns: while now.ring.count > 0 {

@@ -1,6 +1,6 @@
 // One turn of a run.
 ghost use Rattle.std.specs.Prelude.{◌≡◌, ℕ, ◌+◌, ◌*◌, ◌^◌, ◌<◌, ◌≤◌, List, [], ◌∷◌, ◌++◌, length};
-ghost use Rattle.engine.specs.Running.{overlay, counted, Room, Right};
+ghost use Rattle.engine.specs.Running.{overlay, counted, Room, Right, Leaves};
 
 use crate::act::act;
 use crate::order::{Order, draw_place};
@@ -54,7 +54,8 @@ pub fn step(
     requires words { length p.now ≤ 16384 }
     requires room { Room most processes.old lines.old ready.old run }
     requires some { 0 < run.ring.count }
-    ensures { Right p.now map.now most processes.old lines.old ready.old shown.old processes.new lines.new ready.new shown.new run result }
+    ensures right { Right p.now map.now most processes.old lines.old ready.old shown.old processes.new lines.new ready.new shown.new run result }
+    ensures leaves { Leaves p.now map.now processes.old lines.old ready.old shown.old processes.new shown.new run result }
 {
     let next = draw_place(run.order, run.ring.count);
     let order = next.order;

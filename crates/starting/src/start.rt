@@ -2,6 +2,7 @@
 ghost use Rattle.std.specs.Prelude.{◌≡◌, ◌+◌, ◌-◌, ◌*◌, ◌^◌, ◌<◌, ◌≤◌, length};
 ghost use Rattle.rows.specs.declared.decode.Instruction.TheVariants.{Start, Become};
 ghost use Rattle.turns.specs.Meeting.{Doing};
+ghost use Rattle.turns.specs.Turning.{Unwritten};
 ghost use Rattle.starting.specs.Begins.{Begins, Settles};
 
 use crate::begin::{begin, begin_started, release};
@@ -30,6 +31,7 @@ pub fn start(
     requires doing { Doing p.now processes.old i (Start call) }
     ensures begins { Begins p.now map.now processes.old processes.new most count i result }
     ensures settles { Settles p.now map.now processes.old i call result }
+    ensures unwritten { Unwritten processes.old processes.new result }
 {
     let k = i as usize;
     let left = turns(processes, k);
@@ -77,7 +79,16 @@ pub fn start(
                 variables,
             );
             let next = numbers.next as u32;
-            release(p, call.conversations, call.count, processes, k, line, left - 1, next);
+            release(
+                p,
+                call.conversations,
+                call.count,
+                processes,
+                k,
+                line,
+                left - 1,
+                next,
+            );
             Turn::Started
         }
     }
@@ -99,6 +110,7 @@ pub fn turn_into(
     requires doing { Doing p.now processes.old i (Become call) }
     ensures begins { Begins p.now map.now processes.old processes.new most count i result }
     ensures settles { Settles p.now map.now processes.old i call result }
+    ensures unwritten { Unwritten processes.old processes.new result }
 {
     let k = i as usize;
     let left = turns(processes, k);
@@ -128,7 +140,16 @@ pub fn turn_into(
             let ends = conversations_at(p, call.conversations, call.count, processes, k);
             let variables = call.expressions.max(head.variables) as usize;
             let body = head.body as u32;
-            begin(processes, k, body, left - 1, &ends, call.count, &numbers, variables);
+            begin(
+                processes,
+                k,
+                body,
+                left - 1,
+                &ends,
+                call.count,
+                &numbers,
+                variables,
+            );
             Turn::On
         }
     }

@@ -56,7 +56,7 @@ Turned s second g procs procs' lines' most count i a q (Both j) = After s second
 Turned s second g procs procs' lines' most count i a q Started = After s second g procs procs' lines' count (suc count) a (count ∷ i ∷ q) [] 1 × (count < most)
 Turned s second g procs procs' lines' most count i a q Off = After s second g procs procs' lines' count count a q [] 0
 Turned s second g procs procs' lines' most count i a q Crowded = OneMore g a count × (most ≤ count)
-Turned s second g procs procs' lines' most count i a q Odd = Oddness g a × (procs' ≡ procs)
+Turned s second g procs procs' lines' most count i a q Odd = Oddness g a
 
 -- for every program that the words are the writing of, every configuration that they hold, and every queue
 abbrev pub Turns : List ℕ → Map → List ℕ → List ℕ → List ℕ → List ℕ → ℕ → ℕ → ℕ → Turn → Type 0
@@ -78,6 +78,16 @@ Parked lines lines' e i false = (k : ℕ) × (waiter_at lines e ≡ some k)
 abbrev pub Acts : List ℕ → Map → List ℕ → List ℕ → ℕ → ℕ → Turn → Type 0
 Acts s m procs procs' count i t =
     (most : ℕ) (lines : List ℕ) (g : Program) (a : Configuration) (q : List ℕ) → Before s m.second g procs lines count i a q → Turned s m.second g procs procs' lines most count i a q t
+
+-- what is odd is found before anything is written
+abbrev pub Unwritten : List ℕ → List ℕ → Turn → Type 0
+Unwritten procs procs' On = Unit {0}
+Unwritten procs procs' (Shown v) = Unit {0}
+Unwritten procs procs' (Both j) = Unit {0}
+Unwritten procs procs' Started = Unit {0}
+Unwritten procs procs' Off = Unit {0}
+Unwritten procs procs' Crowded = Unit {0}
+Unwritten procs procs' Odd = procs' ≡ procs
 
 -- the process goes on
 abbrev pub Goes : Turn → Type 0

@@ -1,7 +1,7 @@
 // Turns of a process by itself: it stops, puts a number into a variable, takes one of two ways, or shows a number.
 ghost use Rattle.std.specs.Prelude.{◌≡◌, ◌+◌, ◌*◌, ◌<◌, ◌≤◌, length};
 ghost use Rattle.rows.specs.declared.decode.Instruction.TheVariants.{Stop, Set, If, Show};
-ghost use Rattle.turns.specs.Turning.{Acts, Goes};
+ghost use Rattle.turns.specs.Turning.{Acts, Goes, Unwritten};
 ghost use Rattle.turns.specs.Meeting.{Doing};
 
 use crate::turn::Turn;
@@ -14,7 +14,8 @@ pub fn stop(p: &[u32], map: &Map, processes: &mut [u32], count: usize, i: u32) -
     requires there { i < count }
     requires records { 64 * count ≤ length processes.old }
     requires doing { Doing p.now processes.old i Stop }
-    ensures { Acts p.now map.now processes.old processes.new count i result }
+    ensures acts { Acts p.now map.now processes.old processes.new count i result }
+    ensures unwritten { Unwritten processes.old processes.new result }
 {
     halt(processes, i as usize, Standing::Stopped);
     Turn::Off

@@ -3,7 +3,7 @@
 ghost use Rattle.std.specs.Prelude.{◌≡◌, ◌+◌, ◌-◌, ◌*◌, ◌^◌, ◌<◌, ◌≤◌, length};
 ghost use Rattle.records.specs.Records.{endpoint};
 ghost use Rattle.turns.specs.Meeting.{Doing};
-ghost use Rattle.turns.specs.Turning.{Communicates, Parked};
+ghost use Rattle.turns.specs.Turning.{Communicates, Parked, Unwritten};
 
 use crate::meeting::exchange;
 use crate::turn::Turn;
@@ -44,7 +44,8 @@ pub fn communicate(
     requires code { count < 2 ^ 32 }
     requires records { 64 * count ≤ length processes.old }
     requires sides { 2 * count ≤ length lines.old }
-    ensures { Communicates p.now map.now processes.old lines.old processes.new lines.new count i conversation result }
+    ensures communicates { Communicates p.now map.now processes.old lines.old processes.new lines.new count i conversation result }
+    ensures unwritten { Unwritten processes.old processes.new result }
 {
     match end_at(processes, i as usize, conversation) {
         None => Turn::Off,

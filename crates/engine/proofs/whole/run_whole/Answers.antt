@@ -26,12 +26,11 @@ returns-in-Empty c g reads mapped = at_rest_empty g c.args.most c.args.turns c.a
 
 pub returns-in-Crowded-run_on : goal.returns-in-Crowded-run_on
 returns-in-Crowded-run_on c g reads mapped =
-    (c.in-Crowded-run_on.ensures.ends g (begin g c.args.turns) c.args.shown.now reads mapped (c.in-Ready.ensures.1 g c.args.shown.now reads mapped)).0
+    c.in-Crowded-run_on.ensures.ends g (begin g c.args.turns) c.args.shown.now reads mapped (c.in-Ready.ensures.1 g c.args.shown.now reads mapped)
 
 pub returns-in-Odd : goal.returns-in-Odd
 returns-in-Odd c g reads mapped =
-    let t = c.in-Odd.ensures.ends g (begin g c.args.turns) c.args.shown.now reads mapped (c.in-Ready.ensures.1 g c.args.shown.now reads mapped) in
-    record { now = t.0.now; steps = t.0.steps; odd = t.1 }
+    c.in-Odd.ensures.ends g (begin g c.args.turns) c.args.shown.now reads mapped (c.in-Ready.ensures.1 g c.args.shown.now reads mapped)
 
 pub returns-in-Still : goal.returns-in-Still
 returns-in-Still c g reads mapped =

@@ -22,8 +22,8 @@ run_on-requires c =
 pub look_to_end-requires : goal.look_to_end-requires
 look_to_end-requires c =
     let r = c.requires.readable in
-    let few = c.in-Odd.ensures.fits in
-    let t = c.in-Odd.ensures.ends r.program (begin r.program c.args.turns) c.args.shown.now r.reads r.mapped (c.in-Ready.ensures.1 r.program c.args.shown.now r.reads r.mapped) in
+    let few = c.in-Odd.ensures.odd_fits in
+    let t = c.in-Odd.ensures.tells r.program (begin r.program c.args.turns) c.args.shown.now r.reads r.mapped (c.in-Ready.ensures.1 r.program c.args.shown.now r.reads r.mapped) in
     record {
       words = c.requires.words;
       some = some_there c.args.p.now c.args.map.now.second r.program c.args.most c.args.shown.now c.run_on.new.processes c.run_on.new.shown c.in-Odd.count c.in-Odd.total (begin r.program c.args.turns) t.0 t.1;
@@ -48,8 +48,9 @@ returns-in-Empty c g reads mapped = no_process c.args.p.now g c.args.most c.args
 
 pub returns-in-Crowded-run_on : goal.returns-in-Crowded-run_on
 returns-in-Crowded-run_on c g reads mapped =
-    let t = c.in-Crowded-run_on.ensures.ends g (begin g c.args.turns) c.args.shown.now reads mapped (c.in-Ready.ensures.1 g c.args.shown.now reads mapped) in
-    (t.0, t.1, refl)
+    let e = c.in-Crowded-run_on.ensures in
+    let run = c.in-Ready.ensures.1 g c.args.shown.now reads mapped in
+    (e.ends g (begin g c.args.turns) c.args.shown.now reads mapped run, e.tells g (begin g c.args.turns) c.args.shown.now reads mapped run, refl)
 
 pub returns-in-Still : goal.returns-in-Still
 returns-in-Still c g reads mapped =
@@ -58,5 +59,5 @@ returns-in-Still c g reads mapped =
 
 pub returns-in-Odd : goal.returns-in-Odd
 returns-in-Odd c g reads mapped =
-    let t = c.in-Odd.ensures.ends g (begin g c.args.turns) c.args.shown.now reads mapped (c.in-Ready.ensures.1 g c.args.shown.now reads mapped) in
+    let t = c.in-Odd.ensures.tells g (begin g c.args.turns) c.args.shown.now reads mapped (c.in-Ready.ensures.1 g c.args.shown.now reads mapped) in
     c.look_to_end.ensures g (begin g c.args.turns) c.args.shown.now reads mapped t.0

@@ -9,6 +9,7 @@ returns-then-left-eq0 c = record {
   begins = λ lines g a q reads mapped b.
       start_spent c.args.p.now c.args.map.now.second c.args.processes.now lines c.args.count c.args.i g a q b c.args.call c.turns-left.result c.turns-left.ensures c.requires.doing
       c.halt.new.words c.if-left-eq0.true c.halt.ensures;
+  unwritten = tt;
 }
 
 pub returns-in-None : goal.returns-in-None
@@ -17,6 +18,7 @@ returns-in-None c = record {
   begins = λ lines g a q reads mapped b.
       start_missing c.args.p.now c.args.map.now.second c.args.processes.now lines c.args.count c.args.i g a q b c.args.call c.turns-left.result c.turns-left.ensures c.requires.doing
       _ refl c.if-left-eq0.false (c.in-None.ensures.is g reads mapped);
+  unwritten = tt;
 }
 
 pub returns-then-count-most : goal.returns-then-count-most
@@ -27,36 +29,34 @@ returns-then-count-most c = record {
         c.in-Some.head (c.in-Some.ensures.is g reads mapped) c.if-left-eq0.false,
     c.if-count-most.true,
   );
+  unwritten = tt;
 }
 
 pub returns-then-call-gt15 : goal.returns-then-call-gt15
 returns-then-call-gt15 c = record {
   settles = (λ g w reads mapped h. start_crams_ends c.args.p.now c.args.map.now.second c.args.processes.now c.args.i g c.args.call w h c.in-Some.head (c.in-Some.ensures.is g reads mapped) c.requires.doing c.if-call-gt15.true);
-  begins = λ lines g a q reads mapped b. (
-    start_many_ends c.args.p.now c.args.map.now.second c.args.processes.now lines c.args.count c.args.i g a q b c.args.call c.turns-left.result c.turns-left.ensures c.requires.doing
-        c.in-Some.head (c.in-Some.ensures.is g reads mapped) c.if-left-eq0.false c.if-call-gt15.true,
-    refl,
-  );
+  begins = λ lines g a q reads mapped b.
+      start_many_ends c.args.p.now c.args.map.now.second c.args.processes.now lines c.args.count c.args.i g a q b c.args.call c.turns-left.result c.turns-left.ensures c.requires.doing
+      c.in-Some.head (c.in-Some.ensures.is g reads mapped) c.if-left-eq0.false c.if-call-gt15.true;
+  unwritten = refl;
 }
 
 pub returns-then-call-gt16 : goal.returns-then-call-gt16
 returns-then-call-gt16 c = record {
   settles = (λ g w reads mapped h. start_crams_numbers c.args.p.now c.args.map.now.second c.args.processes.now c.args.i g c.args.call w h c.in-Some.head (c.in-Some.ensures.is g reads mapped) c.requires.doing c.if-call-gt16.true);
-  begins = λ lines g a q reads mapped b. (
-    start_many_numbers c.args.p.now c.args.map.now.second c.args.processes.now lines c.args.count c.args.i g a q b c.args.call c.turns-left.result c.turns-left.ensures c.requires.doing
-        c.in-Some.head (c.in-Some.ensures.is g reads mapped) c.if-left-eq0.false c.if-call-gt16.true,
-    refl,
-  );
+  begins = λ lines g a q reads mapped b.
+      start_many_numbers c.args.p.now c.args.map.now.second c.args.processes.now lines c.args.count c.args.i g a q b c.args.call c.turns-left.result c.turns-left.ensures c.requires.doing
+      c.in-Some.head (c.in-Some.ensures.is g reads mapped) c.if-left-eq0.false c.if-call-gt16.true;
+  unwritten = refl;
 }
 
 pub returns-then-ends_count-gt15 : goal.returns-then-ends_count-gt15
 returns-then-ends_count-gt15 c = record {
   settles = (λ g w reads mapped h. start_crams_own c.args.p.now c.args.map.now.second c.args.processes.now c.args.i g c.args.call w h c.in-Some.head (c.in-Some.ensures.is g reads mapped) c.requires.doing c.ends_count.result c.ends_count.ensures c.if-ends_count-gt15.true);
-  begins = λ lines g a q reads mapped b. (
-    start_many_own c.args.p.now c.args.map.now.second c.args.processes.now lines c.args.count c.args.i g a q b c.args.call c.turns-left.result c.turns-left.ensures c.requires.doing
-        c.in-Some.head (c.in-Some.ensures.is g reads mapped) c.if-left-eq0.false c.ends_count.result c.ends_count.ensures c.if-ends_count-gt15.true,
-    refl,
-  );
+  begins = λ lines g a q reads mapped b.
+      start_many_own c.args.p.now c.args.map.now.second c.args.processes.now lines c.args.count c.args.i g a q b c.args.call c.turns-left.result c.turns-left.ensures c.requires.doing
+      c.in-Some.head (c.in-Some.ensures.is g reads mapped) c.if-left-eq0.false c.ends_count.result c.ends_count.ensures c.if-ends_count-gt15.true;
+  unwritten = refl;
 }
 
 pub returns-then-head-gt16 : goal.returns-then-head-gt16
@@ -67,6 +67,7 @@ returns-then-head-gt16 c = record {
       let few = h.few in
       let vars = h.vars in
       absurd (omega arith);
+  unwritten = refl;
 }
 
 pub returns-else-head-gt16 : goal.returns-else-head-gt16
@@ -78,4 +79,5 @@ returns-else-head-gt16 c = record {
         _ c.max-variables.result c.variables.ensures c.numbers_at-numbers.ensures.numbers c.conversations_at-ends.ensures refl c.max-variables.ensures c.begin_started.ensures c.release.ensures,
     omega arith,
   );
+  unwritten = tt;
 }

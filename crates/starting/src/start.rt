@@ -78,7 +78,7 @@ pub fn start(
                 &numbers,
                 variables,
             );
-            let next = numbers.next as u32;
+            let kept = left - 1;
             release(
                 p,
                 call.conversations,
@@ -86,8 +86,8 @@ pub fn start(
                 processes,
                 k,
                 line,
-                left - 1,
-                next,
+                kept,
+                numbers.next as u32,
             );
             Turn::Started
         }
@@ -139,12 +139,12 @@ pub fn turn_into(
             );
             let ends = conversations_at(p, call.conversations, call.count, processes, k);
             let variables = call.expressions.max(head.variables) as usize;
-            let body = head.body as u32;
+            let rest = left - 1;
             begin(
                 processes,
                 k,
-                body,
-                left - 1,
+                head.body as u32,
+                rest,
                 &ends,
                 call.count,
                 &numbers,

@@ -1,4 +1,6 @@
 // The calls as C functions: a slice passes as a pointer and then a length, an answer as a number.
+#![tactic(auto)]
+
 ghost use Rattle.std.specs.Prelude.{◌≡◌, length};
 ghost use Rattle.engine.specs.Running.{overlay};
 ghost use Rattle.embedding.specs.Codes.{JudgeCode, ran_of, explored_of};

@@ -1,12 +1,12 @@
 -- What an instruction says of the process that is at it.
-use Rattle.std.proofs.Common.{◌≡◌, ℕ, List, [], ◌∷◌, ◌++◌, Some, None, sym, refl, ap, ◌∙◌, subst, arith}
+use Rattle.std.proofs.Common.{◌≡◌, ℕ, List, Some, None, sym, refl, ap, ◌∙◌, subst, arith}
 use mathlib.Core.Option.{some}
 use Rattle.rows.specs.declared.decode.Instruction.{Instruction}
 use Rattle.rows.specs.declared.decode.Instruction.TheVariants.{Stop, Give, Take, Choose, Offer, Set, If, Show, Start, Become}
 use Rattle.rows.specs.declared.decode.Call.{Call}
 use Rattle.rows.specs.Decode.{instruction_at, talk_at, conversation_in, Words}
 use Rattle.rows.proofs.Talks.{Talk, gives, takes, chooses, offers, talk_found, talks_only, talks_none}
-use Rattle.rows.proofs.Instructions.{CallIs, Standing, at_stop, at_give, at_take, at_choose, at_offer, at_set, at_if, at_show, at_start, at_become, instruction_found}
+use Rattle.rows.proofs.Instructions.{Standing, at_give, at_take, at_choose, at_offer, instruction_found}
 use Rattle.model.specs.Program.{nth, Program, Action}
 use Rattle.model.specs.Steps.{Worker, Configuration}
 use Rattle.records.specs.Records.{record_at}

@@ -1,7 +1,7 @@
 -- A run from turn to turn, and what holds when it ends.
-use Rattle.std.proofs.Common.{◌≡◌, ℕ, zero, suc, ◌+◌, ◌-◌, ◌*◌, ◌<◌, ◌≤◌, List, [], ◌∷◌, ◌++◌, length, sym, refl, ap, ◌∙◌, subst, arith}
+use Rattle.std.proofs.Common.{◌≡◌, ℕ, ◌≤◌, List, length, sym, ◌∙◌, subst, arith}
 use Rattle.model.specs.Program.{Program}
-use Rattle.model.specs.Steps.{Configuration, Step, Steps, here, more}
+use Rattle.model.specs.Steps.{Configuration, Steps, here, more}
 use Rattle.queues.specs.Lines.{waiter_at}
 use Rattle.queues.specs.Rings.{queue, Within}
 use Rattle.turns.specs.Holding.{Holding}
@@ -9,7 +9,7 @@ use Rattle.turns.specs.Scheduling.{In, Scheduled}
 use Rattle.turns.specs.Turning.{Oddness, OneMore}
 use Rattle.turns.proofs.Moves.{still}
 use Rattle.engine.specs.declared.step.Run.{Run}
-use Rattle.engine.specs.Running.{Room, Running, Went, queue_of}
+use Rattle.engine.specs.Running.{Room, Went}
 use Rattle.engine.specs.Ending.{Reached, Finished, TooMany, Strange, Midway, Written}
 
 pub steps_then : {g : Program} {a b c : Configuration} → Steps g a b → Steps g b c → Steps g a c

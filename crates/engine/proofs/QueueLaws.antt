@@ -1,7 +1,7 @@
 -- Queues in which nobody stands twice: one taken out, one put at the end, and how long they are at most.
-use Rattle.std.proofs.Common.{◌≡◌, ℕ, zero, suc, ◌+◌, ◌-◌, ◌<◌, ◌≤◌, ◌⊎◌, List, [], ◌∷◌, ◌++◌, length, sym, refl, ap, ◌∙◌, subst, inl, inr, arith}
+use Rattle.std.proofs.Common.{◌≡◌, ℕ, zero, suc, ◌<◌, ◌≤◌, ◌⊎◌, List, [], ◌∷◌, ◌++◌, length, sym, refl, ap, ◌∙◌, subst, inl, inr, arith}
 use mathlib.Core.Option.{Option, some, none}
-use Rattle.model.specs.Program.{nth, put}
+use Rattle.model.specs.Program.{nth}
 use Rattle.queues.specs.Rings.{taken}
 use Rattle.turns.specs.Scheduling.{In}
 use Rattle.model.proofs.Lists.{same?, nth_below, length_put, nth_put_same, nth_put_other, nth_put_split, nth_append_left, nth_snoc_last, nth_snoc_split}

@@ -1,21 +1,19 @@
 -- One turn of a run, from the turn of the process that was drawn from the queue.
-use Rattle.std.proofs.Common.{◌≡◌, ℕ, zero, suc, ◌+◌, ◌-◌, ◌*◌, ◌<◌, ◌≤◌, ◌⊎◌, List, [], ◌∷◌, ◌++◌, length, get_or, sym, refl, ap, ◌∙◌, subst, inl, inr, append-nil, add-one, arith, length-append}
-use mathlib.Core.Option.{Option, some, none}
+use Rattle.std.proofs.Common.{◌≡◌, ℕ, zero, suc, ◌+◌, ◌*◌, ◌<◌, List, [], ◌∷◌, ◌++◌, length, get_or, sym, refl, ap, ◌∙◌, subst, inl, inr, append-nil, add-one, arith, length-append}
+use mathlib.Core.Option.{some}
 use Rattle.model.specs.Program.{nth, Program}
 use Rattle.model.specs.Steps.{Configuration, only_first}
 use Rattle.records.proofs.TableLaws.{length_table}
 use Rattle.queues.specs.declared.ring.Ring.{Ring}
-use Rattle.queues.specs.Lines.{waiter_at}
-use Rattle.queues.specs.Rings.{slot, queue, taken, Within, Pushed, Gone}
-use Rattle.turns.specs.Holding.{Holding, potential}
-use Rattle.turns.specs.Scheduling.{In, Runs, Scheduled}
+use Rattle.queues.specs.Rings.{slot, queue, taken, Pushed, Gone}
+use Rattle.turns.specs.Scheduling.{In, Runs}
 use Rattle.turns.specs.Turning.{Before, After}
 use Rattle.model.proofs.Lists.{nth_below}
 use Rattle.turns.proofs.Queue.{in_here, in_there, in_split}
 use Rattle.turns.proofs.Moves.{scheduled_same}
 use Rattle.engine.specs.declared.order.Order.{Order}
 use Rattle.engine.specs.declared.step.Run.{Run}
-use Rattle.engine.specs.Running.{Once, overlay, counted, queue_of, Room, Running, measure, Went}
+use Rattle.engine.specs.Running.{Once, overlay, counted, queue_of, Running, Went}
 use Rattle.engine.proofs.QueueLaws.{taken_in, taken_or, taken_not, taken_once, snoc_in, snoc_out, snoc_once, once_length}
 
 pub length_queue : (s : List ℕ) (h c : ℕ) → length (queue s h c) ≡ c

@@ -1,5 +1,5 @@
 -- The configuration in which a run begins is held by the words.
-use Rattle.std.proofs.Common.{◌≡◌, ℕ, zero, suc, ◌+◌, ◌-◌, ◌*◌, ◌^◌, ◌<◌, ◌≤◌, min, max, ◌⊎◌, List, [], ◌∷◌, ◌++◌, length, get_or, drop, set, Some, None, sym, refl, ap, ◌∙◌, subst, inl, inr, arith, length-set, get_or-set_same}
+use Rattle.std.proofs.Common.{◌≡◌, ℕ, zero, suc, ◌+◌, ◌-◌, ◌*◌, ◌<◌, ◌≤◌, max, List, [], ◌∷◌, length, get_or, set, sym, refl, ap, ◌∙◌, subst, arith, length-set, get_or-set_same}
 use mathlib.Core.Option.{Option, some, none}
 use Rattle.rows.specs.declared.decode.Head.{Head}
 use Rattle.model.specs.Program.{nth, Program, Process}
@@ -7,19 +7,18 @@ use Rattle.model.specs.Steps.{Endpoint, running, Worker, Configuration, begun, f
 use Rattle.records.specs.Tables.{table}
 use Rattle.records.specs.Records.{record_at, Kept}
 use Rattle.queues.specs.Lines.{who_of, waiter_at}
-use Rattle.queues.specs.Rings.{slot, queue}
+use Rattle.queues.specs.Rings.{queue}
 use Rattle.queues.proofs.RingLaws.{slot_none}
-use Rattle.evaluation.specs.declared.handed.Numbers.{Numbers}
 use Rattle.evaluation.specs.Handing.{numbers_in}
-use Rattle.evaluation.proofs.HandingLaws.{pad_table, Zeros, get_or_zeros}
-use Rattle.turns.specs.Holding.{Holds, Below, Holding}
-use Rattle.turns.specs.Scheduling.{In, Runs, Waits, Scheduled}
+use Rattle.evaluation.proofs.HandingLaws.{pad_table}
+use Rattle.turns.specs.Holding.{Holds}
+use Rattle.turns.specs.Scheduling.{In, Runs, Scheduled}
 use Rattle.turns.proofs.MeetingLaws.{holds_as}
 use Rattle.starting.specs.Heads.{HeadIs}
 use Rattle.starting.specs.Beginning.{begun_with}
 use Rattle.engine.specs.declared.order.Order.{Order}
 use Rattle.engine.specs.declared.step.Run.{Run}
-use Rattle.engine.specs.Running.{Once, overlay, counted, queue_of, Running}
+use Rattle.engine.specs.Running.{Once, Running}
 
 pub zero_all : (l : List ℕ) (n : ℕ) → length l ≤ n → ((k : ℕ) → k < n → get_or l k 0 ≡ 0) → (k : ℕ) → get_or l k 0 ≡ 0
 zero_all [] n h z k = refl

@@ -1,14 +1,12 @@
 -- A whole run, from how it was set up to how it ended.
-use Rattle.std.proofs.Common.{◌≡◌, ℕ, zero, suc, ◌<◌, ◌≤◌, Bool, true, false, List, [], ◌∷◌, ◌++◌, length, sym, refl, ap, ◌∙◌, subst, arith}
-use mathlib.Core.Option.{Option, some, none}
+use Rattle.std.proofs.Common.{◌≡◌, ℕ, ◌<◌, Bool, true, false, List, [], length, sym, refl, ap, ◌∙◌, arith}
+use mathlib.Core.Option.{some}
 use Rattle.model.specs.Program.{nth, Program}
-use Rattle.model.specs.Steps.{State, running, spent, Worker, Configuration, Step, alone, together, Steps, here, begin}
+use Rattle.model.specs.Steps.{State, running, spent, Configuration, alone, together, here, begin}
 use Rattle.model.specs.Theorems.{Still}
-use Rattle.records.specs.Records.{record_at}
 use Rattle.turns.specs.Holding.{Holding}
 use Rattle.model.proofs.Lists.{nth_below, nth_there}
 use Rattle.engine.specs.Outs.{SomeAt}
-use Rattle.engine.specs.Running.{overlay, counted}
 use Rattle.engine.specs.Ending.{Finished, TooMany}
 use Rattle.engine.specs.Whole.{SomeWorker, AtRest}
 

@@ -11,7 +11,7 @@ use Rattle.turns.specs.Turning.{Oddness}
 use Rattle.engine.specs.declared.step.Run.{Run}
 use Rattle.engine.specs.declared.run.Ended.{Ended}
 use Rattle.engine.specs.declared.run.Ended.TheVariants.{Still as EndedStill, Crowded, Odd}
-use Rattle.engine.specs.Running.{Running, Room, overlay, counted}
+use Rattle.engine.specs.Running.{Running, overlay, counted}
 
 -- the words are the writing of some program, and hold some configuration
 pub record Held (s : List ℕ) (m : Map) (procs lines ready shown : List ℕ) (r : Run) : Type 0 where

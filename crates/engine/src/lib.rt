@@ -1,4 +1,6 @@
 // Runs a program in lent words.
+#![tactic(auto)]
+
 pub mod act;
 pub mod order;
 pub mod out;

@@ -1,4 +1,6 @@
 // Running programs that may not keep to their conversations.
+#![tactic(auto)]
+
 ghost use Rattle.std.specs.Prelude.{◌≡◌, length};
 ghost use Rattle.exploring.specs.Exploring.{ExplorePost};
 

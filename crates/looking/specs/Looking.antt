@@ -1,5 +1,5 @@
 -- What a run promises in which each step is looked for.
-use Rattle.std.specs.Prelude.{◌≡◌, ℕ, ◌<◌, ◌≤◌, List}
+use Rattle.std.specs.Prelude.{ℕ, ◌<◌, ◌≤◌, List}
 use Rattle.model.specs.Program.{Program}
 use Rattle.model.specs.Steps.{Configuration, Steps}
 use Rattle.model.specs.Rows.{Reads}

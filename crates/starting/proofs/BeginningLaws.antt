@@ -1,5 +1,5 @@
 -- The records of a process that begins and of its starter, from the writes one after the other.
-use Rattle.std.proofs.Common.{◌≡◌, ℕ, ◌+◌, ◌<◌, ◌≤◌, List, [], ◌∷◌, ◌++◌, length, sym, refl, ap, ◌∙◌, arith}
+use Rattle.std.proofs.Common.{◌≡◌, ℕ, ◌<◌, List, [], ◌∷◌, length, refl, ap, ◌∙◌, arith}
 use mathlib.Core.Option.{Option, some, none}
 use Rattle.model.specs.Program.{put}
 use Rattle.model.specs.Steps.{Endpoint, without, own_end}

@@ -1,7 +1,7 @@
 -- The ends of a starter and of the process that it starts are those that the starter had, and those of the new line.
-use Rattle.std.proofs.Common.{◌≡◌, ℕ, zero, suc, ◌+◌, ◌<◌, ◌≤◌, ◌⊎◌, List, [], ◌∷◌, ◌++◌, length, get_or, drop, sym, refl, ap, ◌∙◌, subst, inl, inr, arith}
+use Rattle.std.proofs.Common.{◌≡◌, ℕ, zero, suc, ◌+◌, ◌⊎◌, List, [], ◌∷◌, ◌++◌, length, get_or, drop, refl, ap, ◌∙◌, inl, inr, arith}
 use mathlib.Core.Option.{Option, some, none}
-use Rattle.model.specs.Program.{nth, put, or}
+use Rattle.model.specs.Program.{nth, put}
 use Rattle.model.specs.Steps.{Endpoint, end, ends_of, without, own_end, far_end}
 use Rattle.records.specs.Tables.{table}
 use Rattle.evaluation.specs.Handing.{listed}

@@ -1,11 +1,11 @@
 -- The beginning of a process that is found is within the limits.
-use Rattle.std.proofs.Common.{◌≡◌, ℕ, ◌+◌, ◌≤◌, List, length, IfSome, Some, None, Option, subst}
+use Rattle.std.proofs.Common.{ℕ, ◌+◌, ◌≤◌, List, length, IfSome, Some, None, Option}
 use Rattle.rows.specs.declared.decode.Head.{Head}
 use Rattle.rows.specs.declared.map.Map.{Map}
 use Rattle.rows.specs.Mapped.{Known, ProcessIs}
 use Rattle.model.specs.Program.{Program}
 use Rattle.model.proofs.Room.{fine_nth}
-use Rattle.starting.specs.Heads.{HeadIs, HeadOf}
+use Rattle.starting.specs.Heads.{HeadOf}
 
 pub head_of : (s : List ℕ) (m : Map) (f : ℕ) (r : Option Head) → ((g : Program) → Known s m g → ProcessIs s m.second g f r) → HeadOf s m f r
 head_of s m f None h g reads mapped = h g (record { reads = reads; mapped = mapped })

@@ -1,5 +1,5 @@
 -- Where a start or become is odd, somebody would have too much.
-use Rattle.std.proofs.Common.{◌≡◌, ℕ, ◌<◌, ◌⊎◌, List, length, sym, refl, ap, ◌∙◌, inl, inr, arith}
+use Rattle.std.proofs.Common.{◌≡◌, ℕ, ◌<◌, ◌⊎◌, List, length, refl, ap, inl, inr, arith}
 use Rattle.rows.specs.declared.decode.Call.{Call}
 use Rattle.rows.specs.declared.decode.Head.{Head}
 use Rattle.rows.specs.declared.decode.Instruction.TheVariants.{Start, Become}

@@ -1,31 +1,30 @@
 -- The turns of a process that starts another.
-use Rattle.std.proofs.Common.{◌≡◌, ℕ, zero, suc, ◌+◌, ◌-◌, ◌*◌, ◌<◌, ◌≤◌, max, ◌⊎◌, List, [], ◌∷◌, ◌++◌, length, drop, Some, sym, refl, ap, ◌∙◌, subst, inl, inr, append-nil, add-one, arith, length-append}
+use Rattle.std.proofs.Common.{◌≡◌, ℕ, suc, ◌+◌, ◌-◌, ◌<◌, ◌≤◌, max, ◌⊎◌, List, [], ◌∷◌, ◌++◌, length, sym, refl, ap, ◌∙◌, subst, inl, inr, add-one, arith, length-append}
 use mathlib.Core.Option.{Option, some, none}
 use Rattle.rows.specs.declared.decode.Call.{Call}
 use Rattle.rows.specs.declared.decode.Head.{Head}
-use Rattle.rows.specs.declared.decode.Instruction.{Instruction}
 use Rattle.rows.specs.declared.decode.Instruction.TheVariants.{Start, Become}
-use Rattle.rows.specs.Decode.{Words, CallWords}
+use Rattle.rows.specs.Decode.{CallWords}
 use Rattle.rows.specs.Reading.{Seconds}
-use Rattle.rows.proofs.Instructions.{CallIs, Standing, at_stop, at_give, at_take, at_choose, at_offer, at_set, at_if, at_show, at_start, at_become}
-use Rattle.model.specs.Program.{nth, put, Program, Process, Expression, Action, stop, give, take, choose, offer, set, if, show, start, become, values}
-use Rattle.model.specs.Steps.{Endpoint, State, running, stopped, spent, Worker, Configuration, halted, ends_of, without, pad, begun, own_end, far_end, Alone, stops, sets, ifs, shows, starts, becomes, starts_spent, becomes_spent, Together, passes, agrees, Step, alone, Steps, here, more, after_alone, only_first}
+use Rattle.rows.proofs.Instructions.{CallIs, Standing, at_start, at_become}
+use Rattle.model.specs.Program.{nth, put, Program, Expression, Action, start, become, values}
+use Rattle.model.specs.Steps.{Endpoint, State, running, spent, Worker, Configuration, halted, ends_of, without, pad, begun, own_end, far_end, Alone, stops, sets, ifs, shows, starts, becomes, starts_spent, becomes_spent, alone, here, more, after_alone, only_first}
 use Rattle.model.specs.Rows.{row_es, row_a, deep, deep_es}
-use Rattle.records.specs.Records.{Record, record_at, Kept, ended}
+use Rattle.records.specs.Records.{record_at, Kept, ended}
 use Rattle.queues.specs.Lines.{waiter_at}
 use Rattle.evaluation.specs.declared.handed.Numbers.{Numbers}
 use Rattle.evaluation.specs.declared.handed.Ends.{Ends}
 use Rattle.evaluation.specs.Handing.{NumbersAre, Numbered, listed, ends_in, numbers_in}
-use Rattle.turns.specs.Holding.{Holds, Below, weight, weight_in, bank, potential}
-use Rattle.turns.specs.Scheduling.{wish, waiting, end_of, In, Runs, Scheduled}
+use Rattle.turns.specs.Holding.{Holds, weight, weight_in, bank}
+use Rattle.turns.specs.Scheduling.{wish, waiting, end_of, In, Runs}
 use Rattle.turns.specs.Meeting.{Apart}
-use Rattle.turns.specs.Turning.{Crammed, starting, becoming, Oddness, crammed, Before, After, OneMore}
+use Rattle.turns.specs.Turning.{starting, becoming, Oddness, crammed, Before, After, OneMore}
 use Rattle.turns.specs.Meeting.{Doing}
 use Rattle.model.proofs.Lists.{same?, nth_below, length_put, nth_put_same, nth_put_other, nth_snoc_last}
 use Rattle.turns.proofs.Queue.{in_here, in_there, in_split}
 use Rattle.turns.proofs.Potential.{potential_drop, potential_more}
 use Rattle.turns.proofs.HoldingLaws.{holding_more}
-use Rattle.turns.proofs.Moves.{scheduled_on, Leaves, together_facing}
+use Rattle.turns.proofs.Moves.{scheduled_on, together_facing}
 use Rattle.turns.proofs.Found.{standing}
 use Rattle.turns.proofs.MeetingLaws.{holds_as, place_below}
 use Rattle.turns.proofs.CommunicationLaws.{stays}

@@ -1,5 +1,5 @@
 -- The beginning of a process of the program, as it is found in the words.
-use Rattle.std.specs.Prelude.{◌≡◌, ℕ, ◌≤◌, List, ◌++◌, length, drop, Option, MatchOption}
+use Rattle.std.specs.Prelude.{◌≡◌, ℕ, ◌≤◌, List, ◌++◌, drop, Option, MatchOption}
 use Rattle.std.proofs.Math.Option.{some, none}
 use Rattle.rows.specs.declared.decode.Head.{Head}
 use Rattle.rows.specs.declared.map.Map.{Map}

@@ -1,12 +1,11 @@
 -- The answers of a run exclude one another, and what a run promises with each of them.
-use Rattle.std.proofs.Common.{◌≡◌, ℕ, zero, suc, ◌+◌, ◌*◌, ◌<◌, ◌≤◌, Bool, true, false, ◌⊎◌, ◌↔◌, List, length, take, drop, sym, refl, ap, ◌∙◌, subst, inl, inr, arith}
-use mathlib.Core.Option.{some}
+use Rattle.std.proofs.Common.{◌≡◌, ℕ, zero, suc, ◌<◌, ◌≤◌, true, ◌↔◌, List, length, sym, refl, ap, ◌∙◌, subst, arith}
 use native.Mathlib.Decide.{dec_le}
 use Rattle.talks.specs.declared.answers.Ran.{Ran}
 use Rattle.talks.specs.declared.answers.Ran.TheVariants.{Done, Spent, Crowded, Unkept, Unread, OutFull, Few}
-use Rattle.talks.specs.Runs.{GoSays, rank, When, Comes, Parts, GoPost}
+use Rattle.talks.specs.Runs.{GoSays, rank, Comes, Parts}
 use Rattle.model.specs.Program.{Program}
-use Rattle.model.specs.Steps.{Configuration, Worker, State, running, stopped, spent, Steps, begin}
+use Rattle.model.specs.Steps.{Configuration, stopped, spent, Steps, begin}
 use Rattle.model.specs.Keeps.{kept}
 use Rattle.model.specs.Rows.{Reads}
 use Rattle.model.specs.Theorems.{Still, AllStopped, Out}

@@ -1,5 +1,5 @@
 -- The answers of judge: from what the reader and the judge of processes say; and that they exclude one another.
-use Rattle.std.proofs.Common.{◌≡◌, ℕ, Bool, true, false, List, sym, refl, ap, ◌∙◌, arith}
+use Rattle.std.proofs.Common.{◌≡◌, ℕ, true, false, List, sym, refl, ap, ◌∙◌, arith}
 use Rattle.talks.specs.declared.answers.Judged.{Judged}
 use Rattle.talks.specs.declared.answers.Judged.TheVariants.{Keeps, Careless, NoProgram}
 use Rattle.talks.specs.Once.{Kept}

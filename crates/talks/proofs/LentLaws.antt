@@ -1,12 +1,11 @@
 -- A run whose numbers are kept aside, and one that writes them where they are wanted: what they come to.
-use Rattle.std.proofs.Common.{◌≡◌, ℕ, zero, suc, ◌+◌, ◌-◌, ◌*◌, ◌^◌, ◌<◌, ◌≤◌, min, Bool, true, false, cond, ◌⊎◌, ◌↔◌, List, [], ◌∷◌, length, take, drop, sym, refl, ap, ◌∙◌, subst, inl, inr, arith}
+use Rattle.std.proofs.Common.{◌≡◌, ℕ, zero, suc, ◌+◌, ◌-◌, ◌*◌, ◌^◌, ◌<◌, ◌≤◌, Bool, true, false, cond, ◌⊎◌, List, [], ◌∷◌, length, take, drop, sym, refl, ap, ◌∙◌, subst, inl, inr, arith}
 use Rattle.rows.specs.declared.map.Map.{Map}
-use Rattle.rows.specs.Mapped.{Known}
 use Rattle.engine.specs.Running.{overlay, counted}
 use Rattle.talks.specs.declared.answers.Ran.{Ran}
 use Rattle.talks.specs.declared.answers.Ran.TheVariants.{Done, Spent, Crowded, Unkept, Unread, OutFull, Few}
 use Rattle.talks.specs.Once.{Kept, Finished, TooMany}
-use Rattle.talks.specs.Runs.{GoSays, rank, When, Comes, Parts, GoPost}
+use Rattle.talks.specs.Runs.{GoSays, rank, When, Comes, GoPost}
 use Rattle.talks.proofs.Answering.{all_parts, go_only}
 use Rattle.model.specs.Program.{Program}
 use Rattle.model.specs.Steps.{Configuration, Steps, begin}

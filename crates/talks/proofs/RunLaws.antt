@@ -1,18 +1,15 @@
 -- A run of a program that keeps: what does not happen, and what its end comes to.
-use Rattle.std.proofs.Common.{◌≡◌, ℕ, zero, suc, ◌+◌, ◌*◌, ◌<◌, ◌≤◌, Bool, true, false, ◌⊎◌, List, [], length, sym, refl, ap, ◌∙◌, subst, inl, inr, arith}
+use Rattle.std.proofs.Common.{◌≡◌, ℕ, Bool, true, false, List, ap, subst, arith}
 use mathlib.Core.Option.{Option, some, none}
-use Rattle.rows.specs.declared.map.Map.{Map}
-use Rattle.rows.specs.Mapped.{Known}
 use Rattle.turns.specs.Scheduling.{wish, end_of, waiting}
 use Rattle.turns.specs.Turning.{Crammed, starting, becoming, Oddness, shared, crammed}
 use Rattle.engine.specs.Whole.{SomeWorker, AtRest}
 use Rattle.talks.specs.Once.{Finished}
-use Rattle.model.specs.Program.{nth, Action, start, become, Program}
-use Rattle.model.specs.Steps.{Endpoint, Worker, Configuration, spent, end, Steps, begin}
+use Rattle.model.specs.Program.{nth, Program}
+use Rattle.model.specs.Steps.{Endpoint, Worker, Configuration, spent, Steps, begin}
 use Rattle.model.specs.Keeps.{kept}
 use Rattle.model.specs.Rows.{new, Reads}
 use Rattle.model.specs.Picture.{Has, places, KeepsOn}
-use Rattle.model.specs.Theorems.{Still, Out}
 use Rattle.model.proofs.Keeping.{or_open, good}
 use Rattle.model.proofs.Room.{fine_nth, start_fits, become_fits, reached_room}
 use Rattle.model.proofs.Sound.{Sound, reached_sound}

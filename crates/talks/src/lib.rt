@@ -1,4 +1,6 @@
 // The calls: judge, and go with a fixed or a drawn order, for rows of words.
+#![tactic(auto)]
+
 ghost use Rattle.std.specs.Prelude.{◌≡◌, length};
 ghost use Rattle.model.specs.Theorems.{OneProgram};
 ghost use Rattle.talks.specs.Once.{Kept};

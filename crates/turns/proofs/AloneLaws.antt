@@ -1,30 +1,18 @@
 -- Steps of one process by itself.
-use Rattle.std.proofs.Common.{◌≡◌, ℕ, zero, suc, ◌+◌, ◌-◌, ◌<◌, ◌≤◌, max, Bool, true, false, cond, eqb, ◌⊎◌, List, [], ◌∷◌, ◌++◌, length, get_or, drop, Some, sym, refl, ap, ◌∙◌, subst, inl, inr, append-nil, add-zero, arith}
-use mathlib.Core.Option.{Option, some, none}
-use Rattle.rows.specs.declared.decode.Instruction.{Instruction}
-use Rattle.rows.specs.declared.decode.Instruction.TheVariants.{Stop, Set, If, Show}
-use Rattle.rows.specs.Decode.{instruction_at, Words}
-use Rattle.rows.specs.Reading.{Seconds}
-use Rattle.rows.proofs.Instructions.{CallIs, Standing, at_stop, at_give, at_take, at_choose, at_offer, at_set, at_if, at_show, at_start, at_become}
-use Rattle.model.specs.Program.{nth, put, Program, Expression, Action, stop, give, take, choose, offer, set, if, show, start, become, value}
-use Rattle.model.specs.Steps.{Endpoint, State, running, stopped, spent, Worker, Configuration, on, with_var, halted, end, Alone, stops, sets, ifs, shows, Together, Step, alone, Steps, here, more, after_alone, only_first}
-use Rattle.model.specs.Rows.{row_e, row_a, deep, deep_e}
-use Rattle.records.specs.Records.{Record, record_at, Kept, moved, assigned, ended}
+use Rattle.std.proofs.Common.{◌≡◌, ℕ, zero, suc, ◌+◌, ◌<◌, ◌≤◌, List, [], ◌∷◌, ◌++◌, length, sym, refl, ap, ◌∙◌, subst, inl, inr, append-nil, add-zero, arith}
+use mathlib.Core.Option.{some}
+use Rattle.model.specs.Program.{nth, put, Program}
+use Rattle.model.specs.Steps.{running, Worker, Configuration, Alone, alone, here, more, after_alone, only_first}
+use Rattle.records.specs.Records.{Record, record_at, Kept}
 use Rattle.queues.specs.Lines.{waiter_at}
-use Rattle.evaluation.specs.declared.expressions.Valued.{Valued}
-use Rattle.evaluation.specs.Values.{Evaluated, Evaluates}
-use Rattle.evaluation.proofs.GivingLaws.{kept_then, kept_as}
-use Rattle.turns.specs.Holding.{Holds, Below, Holding, potential, weight, weight_in, bank}
-use Rattle.turns.specs.Scheduling.{waiting, In, Runs, Scheduled}
+use Rattle.turns.specs.Holding.{Holds, Below, potential, weight}
+use Rattle.turns.specs.Scheduling.{In, Runs, Scheduled}
 use Rattle.turns.specs.Turning.{Before, After}
-use Rattle.turns.specs.Meeting.{Doing}
 use Rattle.model.proofs.Lists.{same?, nth_below, nth_put_same, nth_put_other}
 use Rattle.turns.proofs.Queue.{in_here, in_there, in_split}
 use Rattle.turns.proofs.Potential.{potential_drop}
-use Rattle.turns.proofs.HoldingLaws.{holding_one, below_as}
-use Rattle.turns.proofs.Moves.{scheduled_on, Leaves, scheduled_off}
-use Rattle.turns.proofs.Found.{standing}
-use Rattle.turns.proofs.MeetingLaws.{holds_moved, holds_assigned, place_below, weight_moved, Way, way_taken}
+use Rattle.turns.proofs.HoldingLaws.{holding_one}
+use Rattle.turns.proofs.Moves.{scheduled_on, scheduled_off}
 
 pub only_first_none : (i : ℕ) → only_first i [] ≡ []
 only_first_none zero = refl

@@ -1,19 +1,16 @@
 -- The turns of a process that stops, puts a number into a variable, takes one of two ways, or shows a number.
-use Rattle.std.proofs.Common.{◌≡◌, ℕ, zero, suc, ◌+◌, ◌-◌, ◌<◌, ◌≤◌, max, Bool, true, false, cond, eqb, List, [], ◌∷◌, ◌++◌, length, get_or, drop, Some, sym, refl, ap, ◌∙◌, subst, arith}
-use mathlib.Core.Option.{Option, some, none}
-use Rattle.rows.specs.declared.decode.Instruction.{Instruction}
+use Rattle.std.proofs.Common.{◌≡◌, ℕ, ◌+◌, ◌<◌, ◌≤◌, max, Bool, true, false, cond, eqb, List, [], ◌∷◌, ◌++◌, length, get_or, drop, sym, refl, ap, ◌∙◌, subst, arith}
 use Rattle.rows.specs.declared.decode.Instruction.TheVariants.{Stop, Set, If, Show}
-use Rattle.rows.specs.Decode.{instruction_at, Words}
 use Rattle.rows.specs.Reading.{Seconds}
-use Rattle.rows.proofs.Instructions.{CallIs, Standing, at_stop, at_give, at_take, at_choose, at_offer, at_set, at_if, at_show, at_start, at_become}
-use Rattle.model.specs.Program.{nth, Program, Expression, Action, stop, give, take, choose, offer, set, if, show, start, become, value}
-use Rattle.model.specs.Steps.{State, running, stopped, spent, Worker, Configuration, on, with_var, halted, Alone, stops, sets, ifs, shows, only_first}
-use Rattle.model.specs.Rows.{row_e, row_a, deep, deep_e}
-use Rattle.records.specs.Records.{Record, record_at, Kept, moved, assigned, ended}
+use Rattle.rows.proofs.Instructions.{Standing, at_stop, at_set, at_if, at_show}
+use Rattle.model.specs.Program.{Program, Expression, Action, set, if, show, value}
+use Rattle.model.specs.Steps.{State, running, stopped, Configuration, on, with_var, halted, stops, sets, ifs, shows, only_first}
+use Rattle.model.specs.Rows.{row_e, row_a, deep}
+use Rattle.records.specs.Records.{record_at, Kept, moved, assigned, ended}
 use Rattle.evaluation.specs.declared.expressions.Valued.{Valued}
-use Rattle.evaluation.specs.Values.{Evaluated, Evaluates}
+use Rattle.evaluation.specs.Values.{Evaluates}
 use Rattle.evaluation.proofs.GivingLaws.{kept_then, kept_as}
-use Rattle.turns.specs.Holding.{Holds, weight, weight_in}
+use Rattle.turns.specs.Holding.{Holds}
 use Rattle.turns.specs.Scheduling.{Runs}
 use Rattle.turns.specs.Turning.{Before, After}
 use Rattle.turns.specs.Meeting.{Doing}

@@ -1,12 +1,12 @@
 -- A turn of a process that waits in a conversation.
-use Rattle.std.proofs.Common.{◌≡◌, ℕ, zero, suc, ◌+◌, ◌-◌, ◌<◌, ◌≤◌, true, false, ◌⊎◌, List, [], ◌∷◌, ◌++◌, length, sym, refl, ap, ◌∙◌, subst, inl, inr, append-nil, arith}
+use Rattle.std.proofs.Common.{◌≡◌, ℕ, ◌-◌, ◌<◌, true, ◌⊎◌, List, [], ◌∷◌, length, sym, refl, ap, ◌∙◌, subst, inl, inr, append-nil, arith}
 use mathlib.Core.Option.{Option, some, none}
 use Rattle.model.specs.Program.{nth, put, Program}
-use Rattle.model.specs.Steps.{Endpoint, running, Worker, Configuration, end, Alone, Facing, Together, Step, together, Steps, here, more, after_together}
+use Rattle.model.specs.Steps.{Endpoint, running, Worker, Configuration, end, Alone, Facing, Together, together, here, more, after_together}
 use Rattle.records.specs.Records.{record_at}
 use Rattle.queues.specs.Lines.{waiter_at, Noted, facing}
-use Rattle.turns.specs.Holding.{Holds, Below, Holding, potential, weight}
-use Rattle.turns.specs.Scheduling.{wish, end_of, waiting, In, Waits, Runs, Scheduled}
+use Rattle.turns.specs.Holding.{Below, Holding, potential, weight}
+use Rattle.turns.specs.Scheduling.{wish, end_of, waiting, In, Waits, Runs}
 use Rattle.turns.specs.Meeting.{Apart, Meets}
 use Rattle.turns.specs.Turning.{Oddness, shared, Before, After, Parked}
 use Rattle.model.proofs.Lists.{same?, nth_below, nth_put_same, nth_put_other}

@@ -1,12 +1,12 @@
 -- The ways that a turn in a conversation can go, one lemma for each.
-use Rattle.std.proofs.Common.{◌≡◌, ℕ, ◌+◌, ◌-◌, ◌<◌, ◌≤◌, true, false, ◌⊎◌, List, [], ◌∷◌, ◌++◌, sym, refl, ap, ◌∙◌, subst, inl, inr, arith}
-use mathlib.Core.Option.{Option, some, none}
+use Rattle.std.proofs.Common.{◌≡◌, ℕ, ◌<◌, true, false, List, [], ◌∷◌, sym, refl, ap, ◌∙◌, subst, inl, inr, arith}
+use mathlib.Core.Option.{some, none}
 use Rattle.model.specs.Program.{nth, Program}
-use Rattle.model.specs.Steps.{Endpoint, running, Worker, Configuration, end, Together}
+use Rattle.model.specs.Steps.{Endpoint, Worker, Configuration, end}
 use Rattle.records.specs.Records.{record_at}
 use Rattle.queues.specs.Lines.{waiter_at, Noted, facing}
 use Rattle.turns.specs.Holding.{Holds}
-use Rattle.turns.specs.Scheduling.{wish, waiting, In, Waits, Runs}
+use Rattle.turns.specs.Scheduling.{wish, In, Waits, Runs}
 use Rattle.turns.specs.Meeting.{Met, Exchanged}
 use Rattle.turns.specs.Turning.{Oddness, Before, After, Parked}
 use Rattle.turns.proofs.Queue.{in_here, in_there}

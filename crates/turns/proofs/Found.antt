@@ -1,14 +1,13 @@
 -- The instruction of an action is found where it stands.
-use Rattle.std.proofs.Common.{◌≡◌, ℕ, zero, suc, ◌+◌, ◌<◌, ◌≤◌, List, [], ◌∷◌, ◌++◌, length, drop, Some, None, sym, refl, ap, ◌∙◌, subst, arith}
-use Rattle.rows.specs.declared.decode.Call.{Call}
+use Rattle.std.proofs.Common.{◌≡◌, ℕ, List, ◌++◌, drop, Some, sym, ap, ◌∙◌, subst}
 use Rattle.rows.specs.declared.decode.Instruction.{Instruction}
-use Rattle.rows.specs.declared.decode.Instruction.TheVariants.{Stop, Give, Take, Choose, Offer, Set, If, Show, Start, Become}
-use Rattle.rows.specs.Decode.{instruction_at, Words}
-use Rattle.rows.proofs.Instructions.{CallIs, Standing, at_stop, at_give, at_take, at_choose, at_offer, at_set, at_if, at_show, at_start, at_become, instruction_found}
+use Rattle.rows.specs.declared.decode.Instruction.TheVariants.{Give, Take, Choose, Offer}
+use Rattle.rows.specs.Decode.{instruction_at}
+use Rattle.rows.proofs.Instructions.{Standing, at_give, at_take, at_choose, at_offer, instruction_found}
 use Rattle.rows.proofs.Passes.{there}
-use Rattle.model.specs.Program.{Expression, Action, stop, give, take, choose, offer, set, if, show, start, become}
+use Rattle.model.specs.Program.{Expression, Action, give, take, choose, offer}
 use Rattle.model.specs.Steps.{Worker, Together, passes, agrees}
-use Rattle.model.specs.Rows.{row_e, row_es, row_a}
+use Rattle.model.specs.Rows.{row_a}
 use Rattle.records.specs.Records.{Record}
 use Rattle.turns.specs.Holding.{Holds}
 

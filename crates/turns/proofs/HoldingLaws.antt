@@ -1,6 +1,6 @@
 -- The words hold a configuration with one worker changed, with two changed, or with one changed and one more.
-use Rattle.std.proofs.Common.{◌≡◌, ℕ, zero, suc, ◌+◌, ◌-◌, ◌<◌, ◌≤◌, ◌⊎◌, List, [], ◌∷◌, ◌++◌, length, sym, refl, ap, ◌∙◌, subst, inl, inr, arith, length-append}
-use mathlib.Core.Option.{Option, some, none}
+use Rattle.std.proofs.Common.{◌≡◌, ℕ, suc, ◌<◌, ◌≤◌, List, [], ◌∷◌, ◌++◌, length, sym, refl, ap, ◌∙◌, subst, inl, inr, arith, length-append}
+use mathlib.Core.Option.{Option}
 use Rattle.model.specs.Program.{nth, put}
 use Rattle.model.specs.Steps.{Endpoint, Worker, Configuration, end}
 use Rattle.records.specs.Records.{Record, record_at, Kept}

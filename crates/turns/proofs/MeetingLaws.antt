@@ -1,20 +1,19 @@
 -- Two workers take a step together, in the words and in the model; or they cannot.
-use Rattle.std.proofs.Common.{◌≡◌, ℕ, zero, suc, ◌+◌, ◌-◌, ◌<◌, ◌≤◌, max, Bool, true, false, cond, eqb, ◌⊎◌, List, [], ◌∷◌, ◌++◌, length, get_or, drop, Some, None, sym, refl, ap, ◌∙◌, subst, inl, inr, append_assoc, arith, length-drop}
-use mathlib.Core.Option.{Option, some, none}
+use Rattle.std.proofs.Common.{◌≡◌, ℕ, ◌+◌, ◌-◌, ◌<◌, ◌≤◌, max, Bool, true, false, cond, eqb, List, ◌++◌, length, get_or, drop, Some, None, sym, refl, ap, ◌∙◌, subst, inl, inr, arith, length-drop}
 use lib.Seq.{drop-append_seam}
 use Rattle.rows.specs.declared.decode.Instruction.{Instruction}
-use Rattle.rows.specs.declared.decode.Instruction.TheVariants.{Stop, Give, Take, Choose, Offer, Set, If, Show, Start, Become}
+use Rattle.rows.specs.declared.decode.Instruction.TheVariants.{Give, Take, Choose, Offer}
 use Rattle.rows.specs.Decode.{instruction_at, talk_at, Words}
 use Rattle.rows.specs.Reading.{Seconds}
 use Rattle.rows.proofs.Places.{rest_at}
 use Rattle.rows.proofs.Talks.{give_talks, take_talks, choose_talks, offer_talks}
-use Rattle.rows.proofs.Instructions.{CallIs, Standing, at_stop, at_give, at_take, at_choose, at_offer, at_set, at_if, at_show, at_start, at_become}
-use Rattle.model.specs.Program.{put, Expression, Action, stop, give, take, choose, offer, set, if, show, start, become, value}
-use Rattle.model.specs.Steps.{Endpoint, State, running, stopped, spent, Worker, on, with_var, end, Facing, Together, passes, agrees}
-use Rattle.model.specs.Rows.{row_e, row_a, deep, deep_e}
+use Rattle.rows.proofs.Instructions.{Standing, at_give, at_take, at_choose, at_offer}
+use Rattle.model.specs.Program.{put, Action, stop, give, take, choose, offer, set, if, show, start, become, value}
+use Rattle.model.specs.Steps.{running, Worker, on, with_var, end, Facing, passes, agrees}
+use Rattle.model.specs.Rows.{row_e, row_a, deep}
 use Rattle.records.specs.Records.{Record, record_at, Kept, moved, assigned}
 use Rattle.evaluation.specs.declared.expressions.Valued.{Valued}
-use Rattle.evaluation.specs.Values.{Evaluated, Evaluates}
+use Rattle.evaluation.specs.Values.{Evaluates}
 use Rattle.turns.specs.Holding.{Holds, weight, weight_in, bank}
 use Rattle.turns.specs.Scheduling.{wish, end_of, waiting}
 use Rattle.turns.specs.Meeting.{Giving, Choosing, Apart, Meets, Met, Exchanged}

@@ -1,9 +1,9 @@
 -- Two moves keep the schedule, and every turn is one of them: some ready processes become others and more are ready;
 -- or one that was ready is so no more. Where nobody is ready, no step is possible.
-use Rattle.std.proofs.Common.{◌≡◌, ℕ, zero, suc, ◌+◌, ◌-◌, ◌<◌, ◌≤◌, ◌⊎◌, List, [], ◌∷◌, ◌++◌, sym, refl, ap, ◌∙◌, subst, inl, inr, arith}
+use Rattle.std.proofs.Common.{◌≡◌, ℕ, ◌<◌, ◌⊎◌, List, [], sym, ap, ◌∙◌, subst, inl, inr, arith}
 use mathlib.Core.Option.{Option, some, none}
-use Rattle.model.specs.Program.{nth, Program, Action, stop, give, take, choose, offer, set, if, show, start, become}
-use Rattle.model.specs.Steps.{Endpoint, running, Worker, Configuration, end, Alone, stops, sets, ifs, shows, starts, becomes, starts_spent, becomes_spent, Together, passes, agrees, Facing, Step, alone, together}
+use Rattle.model.specs.Program.{nth, Program}
+use Rattle.model.specs.Steps.{Endpoint, running, Worker, Configuration, end, Alone, stops, sets, ifs, shows, starts, becomes, starts_spent, becomes_spent, Together, passes, agrees, Facing, alone, together}
 use Rattle.model.specs.Theorems.{Still}
 use Rattle.turns.specs.Scheduling.{wish, end_of, waiting, In, Waits, Runs, Scheduled}
 use Rattle.model.proofs.Lists.{same?}

@@ -1,8 +1,8 @@
 -- Sums over records, and by how much they fall.
-use Rattle.std.proofs.Common.{◌≡◌, ℕ, zero, suc, ◌+◌, ◌-◌, ◌<◌, ◌≤◌, ◌⊎◌, List, [], ◌∷◌, ◌++◌, length, sym, refl, ap, ◌∙◌, subst, inl, inr, arith}
+use Rattle.std.proofs.Common.{◌≡◌, ℕ, zero, suc, ◌+◌, ◌<◌, ◌≤◌, List, [], ◌∷◌, ◌++◌, length, sym, ap, inl, inr, arith}
 use Rattle.model.proofs.Lists.{same?}
 use Rattle.records.specs.Tables.{table}
-use Rattle.records.specs.Records.{Record, record_at}
+use Rattle.records.specs.Records.{record_at}
 use Rattle.records.proofs.TableLaws.{table_snoc}
 use Rattle.turns.specs.Holding.{weight, sum, potential}
 

@@ -1,7 +1,5 @@
 -- Who is in a queue.
-use Rattle.std.proofs.Common.{◌≡◌, ℕ, zero, suc, ◌+◌, ◌<◌, ◌≤◌, ◌⊎◌, List, [], ◌∷◌, ◌++◌, sym, refl, ap, ◌∙◌, subst, inl, inr, arith}
-use mathlib.Core.Option.{Option, some, none}
-use Rattle.model.specs.Program.{nth}
+use Rattle.std.proofs.Common.{◌≡◌, ℕ, zero, suc, ◌⊎◌, List, [], ◌∷◌, refl, inl, inr, arith}
 use Rattle.turns.specs.Scheduling.{In}
 
 pub in_here : (i : ℕ) (q : List ℕ) → In (i ∷ q) i

@@ -1,7 +1,7 @@
 -- The words of a run hold a configuration: each record is a worker, whose action stands at the record's place.
 use Rattle.std.specs.Prelude.{◌≡◌, ℕ, zero, suc, ◌+◌, ◌-◌, ◌<◌, ◌≤◌, List, [], ◌∷◌, ◌++◌, length, drop}
-use Rattle.std.proofs.Math.Option.{Option, some, none}
-use Rattle.model.specs.Program.{nth, Action}
+use Rattle.std.proofs.Math.Option.{Option, some}
+use Rattle.model.specs.Program.{nth}
 use Rattle.model.specs.Steps.{Endpoint, State, running, stopped, spent, Worker, Configuration, end}
 use Rattle.model.specs.Rows.{row_a, deep}
 use Rattle.rows.specs.Reading.{Seconds}

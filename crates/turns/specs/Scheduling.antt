@@ -3,10 +3,10 @@
 -- Some processes are ready. Of all others that are running, none can take a step by itself, and no two can take one
 -- together; each that waits at an end is noted there, and whoever is noted at an end waits there. So where nobody is
 -- ready, no step is possible.
-use Rattle.std.specs.Prelude.{◌≡◌, ℕ, ◌<◌, List, [], ◌∷◌, ◌++◌, ◌≢◌}
+use Rattle.std.specs.Prelude.{◌≡◌, ℕ, ◌<◌, List, ◌≢◌}
 use Rattle.std.proofs.Math.Option.{Option, some, none}
 use Rattle.model.specs.Program.{nth, Action, stop, give, take, choose, offer, set, if, show, start, become, Program}
-use Rattle.model.specs.Steps.{Endpoint, State, running, Worker, end, Alone, Together}
+use Rattle.model.specs.Steps.{Endpoint, running, Worker, end, Alone, Together}
 
 -- the conversation in which an action waits for the other side
 abbrev pub wish : Action → Option ℕ

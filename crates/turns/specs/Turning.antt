@@ -1,6 +1,6 @@
 -- What a turn of a process promises.
-use Rattle.std.specs.Prelude.{◌≡◌, ℕ, zero, suc, ◌+◌, ◌<◌, ◌≤◌, Bool, true, false, ◌⊎◌, List, [], ◌∷◌, ◌++◌, length, ◌≢◌}
-use Rattle.std.proofs.Math.Option.{Option, some, none}
+use Rattle.std.specs.Prelude.{◌≡◌, ℕ, suc, ◌+◌, ◌<◌, ◌≤◌, Bool, true, false, ◌⊎◌, List, [], ◌∷◌, ◌++◌, length, ◌≢◌}
+use Rattle.std.proofs.Math.Option.{some, none}
 use Rattle.model.specs.Program.{nth, Expression, Action, start, become, Process, Program}
 use Rattle.model.specs.Steps.{Endpoint, running, Worker, Configuration, Step, Steps, only_first}
 use Rattle.model.specs.Rows.{Reads}

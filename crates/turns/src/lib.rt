@@ -1,4 +1,6 @@
 // One turn of a process.
+#![tactic(auto)]
+
 pub mod alone;
 pub mod communicate;
 pub mod meeting;

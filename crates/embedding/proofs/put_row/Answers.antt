@@ -1,4 +1,4 @@
-use Rattle.std.proofs.Common.{◌≡◌, [], ◌∷◌}
+use Rattle.std.proofs.Common.{[], ◌∷◌}
 use Rattle.embedding.specs.Rows.{line_word, side_word, number_word}
 use Rattle.embedding.proofs.Laying.{laid_then, laid_as}
 use Rattle.embedding.proofs.put_row.Goals as goal

@@ -1,4 +1,4 @@
-use Rattle.std.proofs.Common.{◌≡◌, length, take, sym, ap, ◌∙◌, add-one, arith}
+use Rattle.std.proofs.Common.{take, sym, ap, ◌∙◌, add-one, arith}
 use Rattle.engine.specs.Running.{overlay, counted}
 use Rattle.embedding.specs.Rows.{rows_words}
 use Rattle.embedding.proofs.Laying.{rows_more, take_all}

@@ -1,4 +1,3 @@
-use Rattle.std.proofs.Common.{◌≡◌}
 use Rattle.model.proofs.Writing.{one_program}
 use Rattle.talks.specs.declared.answers.Judged.TheVariants.{Keeps, Careless, NoProgram}
 use Rattle.talks.specs.Says.{JudgedSays}

@@ -1,5 +1,4 @@
-use Rattle.std.proofs.Common.{length, refl, arith}
-use Rattle.talks.specs.declared.answers.Judged.TheVariants.{Keeps}
+use Rattle.std.proofs.Common.{length, arith}
 use Rattle.talks.proofs.LentLaws.{answer_few, answer_unread, answer_unkept, post}
 use Rattle.talks.proofs.run_in.Goals as goal
 

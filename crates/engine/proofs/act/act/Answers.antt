@@ -1,4 +1,4 @@
-use Rattle.std.proofs.Common.{◌≡◌, sym, ap, ◌∙◌}
+use Rattle.std.proofs.Common.{sym, ap, ◌∙◌}
 use mathlib.Core.Option.{some}
 use Rattle.engine.proofs.ActLaws.{wish_talk}
 use Rattle.engine.proofs.act.act.Goals as goal

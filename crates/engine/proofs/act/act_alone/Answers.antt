@@ -1,4 +1,4 @@
-use Rattle.std.proofs.Common.{◌≡◌, sym, ap, ◌∙◌}
+use Rattle.std.proofs.Common.{sym, ap, ◌∙◌}
 use Rattle.rows.specs.Decode.{talk_at}
 use Rattle.engine.proofs.ActLaws.{nothing_there, nothing_else, goes_unwritten}
 use Rattle.engine.proofs.act.act_alone.Goals as goal

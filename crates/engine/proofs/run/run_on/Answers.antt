@@ -1,4 +1,4 @@
-use Rattle.std.proofs.Common.{◌≡◌, refl, arith}
+use Rattle.std.proofs.Common.{arith}
 use Rattle.model.specs.Steps.{here}
 use Rattle.engine.proofs.EndingLaws.{room_kept, reached_on, reached_still, reached_crowded, reached_odd, tells_crowded, tells_odd}
 use Rattle.engine.proofs.run.run_on.Goals as goal

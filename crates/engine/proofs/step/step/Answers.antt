@@ -1,4 +1,4 @@
-use Rattle.std.proofs.Common.{◌≡◌, ℕ, suc, ◌+◌, List, arith}
+use Rattle.std.proofs.Common.{ℕ, suc, ◌+◌, List, arith}
 use Rattle.model.specs.Program.{Program}
 use Rattle.model.specs.Steps.{Configuration}
 use Rattle.model.specs.Rows.{Reads}

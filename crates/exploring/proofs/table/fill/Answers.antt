@@ -1,4 +1,4 @@
-use Rattle.std.proofs.Common.{◌≡◌, arith}
+use Rattle.std.proofs.Common.{arith}
 use Rattle.exploring.specs.Table.{running_below}
 use Rattle.exploring.proofs.TableLaws.{below_next, told_all}
 use Rattle.exploring.proofs.table.fill.Goals as goal

@@ -1,4 +1,4 @@
-use Rattle.std.proofs.Common.{◌≡◌, refl}
+use Rattle.std.proofs.Common.{refl}
 use Rattle.rows.specs.declared.decode.Instruction.TheVariants.{Stop}
 use Rattle.looking.specs.Moving.{NotAlone}
 use Rattle.looking.proofs.MovingLaws.{goes_told}

@@ -1,4 +1,4 @@
-use Rattle.std.proofs.Common.{◌≡◌, sym, refl, ◌∙◌}
+use Rattle.std.proofs.Common.{sym, refl, ◌∙◌}
 use Rattle.looking.specs.Moving.{NotAlone}
 use Rattle.looking.proofs.MovingLaws.{begins_told}
 use Rattle.looking.proofs.AdvanceLaws.{become_spends, become_stuck, head_there}

@@ -1,4 +1,4 @@
-use Rattle.std.proofs.Common.{◌≡◌, refl}
+use Rattle.std.proofs.Common.{refl}
 use Rattle.records.specs.Records.{endpoint}
 use Rattle.jams.proofs.WaitLaws.{waits_none}
 use Rattle.looking.proofs.PairLaws.{first_nowhere, second_nowhere, ends_apart, nothing_apart, exchanged}

@@ -1,4 +1,4 @@
-use Rattle.std.proofs.Common.{◌≡◌, sym, refl, ◌∙◌, inl, inr, arith}
+use Rattle.std.proofs.Common.{sym, refl, ◌∙◌, inl, inr, arith}
 use Rattle.starting.proofs.StartTurns.{start_spent, start_missing, start_crowded, start_many_ends, start_many_numbers, start_many_own, start_started}
 use Rattle.starting.proofs.Settling.{start_crams_ends, start_crams_numbers, start_crams_own}
 use Rattle.starting.proofs.start.start.Goals as goal

@@ -1,4 +1,4 @@
-use Rattle.std.proofs.Common.{◌≡◌, sym, refl, ◌∙◌, inl, inr, arith}
+use Rattle.std.proofs.Common.{sym, refl, ◌∙◌, inl, inr, arith}
 use Rattle.starting.proofs.StartTurns.{become_spent, become_missing, become_many_ends, become_many_numbers, become_begun}
 use Rattle.starting.proofs.Settling.{become_crams_ends, become_crams_numbers}
 use Rattle.starting.proofs.start.turn_into.Goals as goal

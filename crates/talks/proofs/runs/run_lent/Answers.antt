@@ -1,4 +1,4 @@
-use Rattle.std.proofs.Common.{length, sym, ap, ◌∙◌, arith}
+use Rattle.std.proofs.Common.{length, ◌∙◌, arith}
 use Rattle.talks.proofs.LentLaws.{answer_crowded, answer_full, never_crowded, written_first, written_rest, long_enough, answer_ended}
 use Rattle.talks.proofs.runs.run_lent.Goals as goal
 

@@ -1,4 +1,4 @@
-use Rattle.std.proofs.Common.{◌≡◌, arith}
+use Rattle.std.proofs.Common.{arith}
 use Rattle.records.specs.Records.{endpoint}
 use Rattle.turns.proofs.CommunicationTurns.{turn_nowhere, turn_line, turn_odd, turn_first, turn_other, turn_met, turn_unmet}
 use Rattle.turns.proofs.communicate.communicate.Goals as goal

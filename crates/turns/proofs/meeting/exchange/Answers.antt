@@ -1,4 +1,4 @@
-use Rattle.std.proofs.Common.{◌≡◌, refl}
+use Rattle.std.proofs.Common.{refl}
 use Rattle.records.specs.Records.{record_at}
 use Rattle.turns.proofs.MeetingLaws.{giving, choosing, unmet, other_first, other_second, give_not_second, choose_not_second, take_not_first, offer_not_first, exchanged_first, exchanged_second}
 use Rattle.turns.proofs.meeting.exchange.Goals as goal

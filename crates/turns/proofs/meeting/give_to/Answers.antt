@@ -1,4 +1,4 @@
-use Rattle.std.proofs.Common.{◌≡◌, refl, ap, ◌∙◌}
+use Rattle.std.proofs.Common.{refl, ap, ◌∙◌}
 use Rattle.rows.specs.Decode.{instruction_at, talk_at}
 use Rattle.rows.proofs.Talks.{talk_found}
 use Rattle.records.specs.Records.{record_at}

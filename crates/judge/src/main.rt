@@ -1,4 +1,6 @@
 // `judge`: says whether a program keeps to its conversations.
+#![tactic(auto)]
+
 mod answers;
 mod options;
 mod texts;

@@ -1,4 +1,6 @@
 // Judges the cases of its standard input, `answer | label | words` on each line, and says which come out wrong.
+#![tactic(auto)]
+
 use anyhow::anyhow;
 use std::io::{BufRead, BufReader};
 use talks::{Judged, judge};

@@ -1,4 +1,6 @@
 // `run`: runs programs.
+#![tactic(auto)]
+
 use running::run_command;
 use sources::{Failed, report, status, words_of_command};
 use std::process::ExitCode;

@@ -1,4 +1,6 @@
 // Does what the command lines of its standard input ask of `run`, one after the other, and says how each ended.
+#![tactic(auto)]
+
 use running::run_command;
 use sources::{Failed, report, status};
 use std::alloc::Global;

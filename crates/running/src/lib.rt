@@ -1,4 +1,6 @@
 // Runs programs as a command line asks: once, in several orders, or looking for one that jams.
+#![tactic(auto)]
+
 mod answers;
 mod options;
 mod runner;

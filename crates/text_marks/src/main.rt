@@ -1,5 +1,7 @@
 // Reads a text from the standard input and prints the names of its processes and, for each action in the order of the
 // rows, the word at which it begins, the number that stands there, and the line and column in the text.
+#![tactic(auto)]
+
 use anyhow::anyhow;
 use text::{Fault, Indexed, part, place_of, read_indexed};
 

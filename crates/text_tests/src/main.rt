@@ -1,5 +1,7 @@
 // Reads texts from the standard input, each after a line that begins with `===`, and prints of each its rows and
 // whether they are the same once printed as text and read again, or what is wrong and where.
+#![tactic(auto)]
+
 use anyhow::anyhow;
 use text::{Fault, place_of, print_text, read_text};
 

@@ -1,4 +1,6 @@
 // A run step by step, each said in words.
+#![tactic(auto)]
+
 mod said;
 mod steps;
 mod turn;

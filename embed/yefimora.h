@@ -1,7 +1,7 @@
 /* Judge and run programs of processes that talk along lines.
  *
- * Link with libembedding.a, which `rt staticlib embedding` writes to target/staticlib/; of the C library it needs memcpy
- * and memset. All memory is the caller's, and nothing is allocated. Slices are a pointer and a length in elements, and do
+ * Link with libembedding.a, which `rt lib` in crates/embedding writes to its out/; of the C library it needs memcpy,
+ * memmove and memset. All memory is the caller's, and nothing is allocated. Slices are a pointer and a length in elements, and do
  * not overlap; a slice of length 0 wants a pointer that is not null. Every input has an answer: words that are no program,
  * numbers of any size, slices of any length. */
 #ifndef YEFIMORA_H

@@ -1,6 +1,6 @@
 //! Judge and run programs of processes that talk along lines.
 //!
-//! Safe functions over the static library that `rt staticlib embedding` writes. The memory is the caller's: nothing is
+//! Safe functions over the static library that `rt lib` in crates/embedding writes. The memory is the caller's: nothing is
 //! allocated here or below. The calls take every input, so nothing is tested here either: words that are no program, slices
 //! of any length and numbers of any size have an answer.
 

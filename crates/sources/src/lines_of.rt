@@ -2,8 +2,8 @@
 use crate::failed::Failed;
 use crate::source::Source;
 use lines::Line;
+use std::fs;
 use std::io::Read;
-use std::{fs, io};
 
 // How many bytes are read, and how many are printed, at once.
 const CHUNK: usize = 32768;
@@ -61,7 +61,7 @@ fn take_bytes<A: Answers>(
 }
 
 // The next bytes of an input; none at its end.
-fn next_bytes<R: Read>(input: &mut R, chunk: &mut Vec<u8>) -> io::Result<()> {
+fn read_chunk<R: Read>(input: &mut R, chunk: &mut Vec<u8>) -> Result<(), Failed> {
     let mut buf = [0u8; CHUNK];
     let n = input.read(&mut buf)?;
     chunk.clear();
@@ -69,22 +69,8 @@ fn next_bytes<R: Read>(input: &mut R, chunk: &mut Vec<u8>) -> io::Result<()> {
     Ok(())
 }
 
-// The same; where they cannot be read, that is said.
-fn read_chunk<R: Read>(
-    rt: &HostRuntime,
-    source: Source<'_>,
-    input: &mut R,
-    chunk: &mut Vec<u8>,
-) -> Result<(), Failed> {
-    match next_bytes(input, chunk) {
-        Ok(()) => Ok(()),
-        Err(e) => Err(source.unreadable(rt, e)?),
-    }
-}
-
 fn answer_all<R: Read + Drop, A: Answers>(
     rt: &HostRuntime,
-    source: Source<'_>,
     mut input: R,
     answers: &mut A,
 ) -> Result<(), Failed> {
@@ -93,7 +79,7 @@ fn answer_all<R: Read + Drop, A: Answers>(
     let mut chunk = Vec::new(rt.alloc());
     let mut last = b'\n';
     for _ in 0..u64::MAX {
-        read_chunk(rt, source, &mut input, &mut chunk)?;
+        read_chunk(&mut input, &mut chunk)?;
         match chunk.last() {
             Some(b) => last = *b,
             None => break,
@@ -114,10 +100,10 @@ pub fn answer_lines<A: Answers>(
     answers: &mut A,
 ) -> Result<(), Failed> {
     if source.path == "-" {
-        return answer_all(rt, source, rt.stdin(), answers);
+        return answer_all(rt, rt.stdin(), answers);
     }
     match fs::open(rt, source.path) {
-        Ok(file) => answer_all(rt, source, file, answers),
+        Ok(file) => answer_all(rt, file, answers),
         Err(e) => Err(source.unreadable(rt, e)?),
     }
 }
@@ -131,15 +117,11 @@ fn add_bytes(bytes: &[u8], line: &mut Line) -> Result<(), Failed> {
     Ok(())
 }
 
-fn read_all<R: Read + Drop>(
-    rt: &HostRuntime,
-    source: Source<'_>,
-    mut input: R,
-) -> Result<Line, Failed> {
+fn read_all<R: Read + Drop>(rt: &HostRuntime, mut input: R) -> Result<Line, Failed> {
     let mut line = Line::new(rt.alloc());
     let mut chunk = Vec::new(rt.alloc());
     for _ in 0..u64::MAX {
-        read_chunk(rt, source, &mut input, &mut chunk)?;
+        read_chunk(&mut input, &mut chunk)?;
         if chunk.is_empty() {
             break;
         }
@@ -151,10 +133,10 @@ fn read_all<R: Read + Drop>(
 // The words of one program, on one line or on several.
 pub fn read_words(rt: &HostRuntime, source: Source<'_>) -> Result<Line, Failed> {
     if source.path == "-" {
-        return read_all(rt, source, rt.stdin());
+        return read_all(rt, rt.stdin());
     }
     match fs::open(rt, source.path) {
-        Ok(file) => read_all(rt, source, file),
+        Ok(file) => read_all(rt, file),
         Err(e) => Err(source.unreadable(rt, e)?),
     }
 }

@@ -23,9 +23,7 @@ impl<'a> Source<'a> {
     pub fn unreadable(self, rt: &HostRuntime, e: io::Error) -> Result<Failed, Failed> {
         let reader = self.reader;
         let name = self.called();
-        eprintln!(rt;
-            "{reader}: {name}: {e}: write the name of a file that can be read, or - for the standard input"
-        )?;
+        eprintln!(rt; "{reader}: {name}: {e}")?;
         Ok(Failed::Said)
     }
 }

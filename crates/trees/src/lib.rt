@@ -5,15 +5,15 @@ use actions::{Act, Flat, Fork, Handed, Part, Step};
 use std::alloc::{AllocError, Global};
 use syntax::{Action, Process};
 
-// The tree of parts, the first of which stands last in the list; `depth` is at least how many there are. Where
-// parts are missing there is none, and that does not happen where a text was read without a fault.
+// The tree of parts, the first of which stands last in the list; `depth` is at least how many there are. Where parts
+// are missing it stops, and that does not happen where a text was read without a fault.
 fn build(heap: Global, parts: &mut Vec<Part>, depth: usize) -> Result<Action, AllocError> {
     if depth == 0 {
-        return Err(AllocError);
+        return Ok(Action::Stop(0));
     }
     let below = depth - 1;
     let Some(part) = parts.pop() else {
-        return Err(AllocError);
+        return Ok(Action::Stop(0));
     };
     let Part { at, act } = part;
     match act {

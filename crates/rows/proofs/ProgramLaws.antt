@@ -5,7 +5,7 @@ use native.Mathlib.Decide.{dec_le}
 use Rattle.rows.specs.Reading.{SameBelow}
 use Rattle.rows.specs.declared.map.Map.{Map}
 use Rattle.rows.specs.Mapped.{ProcessAt, Mapped}
-use Rattle.rows.specs.Sections.{PointsAt, ProcessTo, NoProcess, ProcessesAt, NoProcesses, ReadSays}
+use Rattle.rows.specs.Sections.{PointsAt, ProcessTo, NoProcess, ProcessesAt, NoProcesses, Filled}
 use Rattle.rows.proofs.Places.{rest_at, drop_one, drop_list, nth_get_d}
 use Rattle.rows.proofs.Series.{rows_snoc, rows_front}
 use Rattle.rows.proofs.Walks.{seconds_same}
@@ -210,5 +210,5 @@ module _ (s table : List ℕ) (n sides : ℕ) (first : get_or s 0 0 ≡ n) (a : 
       processes = λ i p h. subst (λ t. ProcessAt s t (get_or m.processes i 0) p) (sym e3) (subst (λ t. ProcessAt s second (get_or t i 0) p) (sym e2) (b.at i p h));
     }
 
-    pub program_read : (m : Map) → m.points ≡ table → m.processes ≡ places → m.second ≡ second → m.point_count ≡ n → m.sides ≡ sides → m.process_count ≡ k → ReadSays s m true
-    program_read m e1 e2 e3 e4 e5 e6 = (the_program, program_reads, program_mapped m e1 e2 e3 e4 e5 e6)
+    pub program_read : (m : Map) → m.points ≡ table → m.processes ≡ places → m.second ≡ second → m.point_count ≡ n → m.sides ≡ sides → m.process_count ≡ k → Filled s m
+    program_read m e1 e2 e3 e4 e5 e6 = record { short = short; program = the_program; known = record { reads = program_reads; mapped = program_mapped m e1 e2 e3 e4 e5 e6 } }

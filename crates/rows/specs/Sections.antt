@@ -2,7 +2,8 @@
 use Rattle.std.specs.Prelude.{◌≡◌, ℕ, ◌+◌, ◌<◌, ◌≤◌, Bool, true, false, List, ◌++◌, length, drop, Option, MatchOption, ◌≢◌, slice_index}
 use Rattle.std.proofs.Math.Option.{some}
 use Rattle.rows.specs.declared.map.Map.{Map}
-use Rattle.rows.specs.Mapped.{ProcessAt, Mapped}
+use Rattle.rows.specs.declared.lookup.Rows.{Rows}
+use Rattle.rows.specs.Mapped.{ProcessAt, Known}
 use Rattle.model.specs.Program.{nth, Point, Process, Program}
 use Rattle.model.specs.Rows.{row_p, row_ps, row_r, row_rs, Fine, AllFine, Reads}
 
@@ -54,7 +55,26 @@ NoProcesses s i = (ps : List Process) → length ps ≤ 64 → drop i s ≡ row_
 abbrev pub ProcessesEnd : List ℕ → List ℕ → List ℕ → ℕ → Option ℕ → Type 0
 ProcessesEnd s places second i r = MatchOption r (NoProcesses s i) (ProcessesAt s places second i)
 
--- These words are a program, and this is its map; or they are no program.
-abbrev pub ReadSays : List ℕ → Map → Bool → Type 0
-ReadSays s m true = (g : Program) × Reads s g × Mapped s g m
-ReadSays s m false = (g : Program) → Reads s g → ⊥
+-- These words are a program, short enough, and this is its map.
+pub record Filled (s : List ℕ) (m : Map) : Type 0 where
+  pub short : length s ≤ 16384
+  pub program : Program
+  pub known : Known s m program
+
+-- No program is written as these words.
+abbrev pub NoProgram : List ℕ → Type 0
+NoProgram s = (g : Program) → Reads s g → ⊥
+
+-- The map is that of the program that these words are; or they are no program.
+abbrev pub Fills : List ℕ → Map → Option (Unit {0}) → Type 0
+Fills s m r = MatchOption r (NoProgram s) (λ _. Filled s m)
+
+-- Rows were read from these words: they are those of a program, with its map.
+pub record RowsOf (s : List ℕ) (r : Rows) : Type 0 where
+  pub words : r.words.now ≡ s
+  pub program : Program
+  pub known : Known s r.map.now program
+
+-- These words are a program, and its rows are these; or they are no program.
+abbrev pub ReadSays : List ℕ → Option Rows → Type 0
+ReadSays s r = MatchOption r (NoProgram s) (RowsOf s)

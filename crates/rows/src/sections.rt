@@ -3,10 +3,11 @@ ghost use Rattle.std.specs.Prelude.{◌≡◌, ◌^◌, ◌<◌, ◌≤◌, leng
 ghost use Rattle.model.specs.Rows.{row_p};
 ghost use Rattle.rows.specs.Decode.{said};
 ghost use Rattle.rows.specs.Reading.{SameBelow};
-ghost use Rattle.rows.specs.Sections.{PointsEnd, ProcessEnd, ProcessesEnd, ReadSays};
+ghost use Rattle.rows.specs.Sections.{PointsEnd, ProcessEnd, ProcessesEnd, Fills, ReadSays};
 
 use crate::actions::action_end;
 use crate::decode::{PointKind, head_at, point_at};
+use crate::lookup::Rows;
 use crate::map::Map;
 
 // How many words a point has.
@@ -93,36 +94,36 @@ fn processes_end(p: &[u32], at: usize, places: &mut [u16], second: &mut [u16]) -
     Some(count)
 }
 
-// Whether the words are a program. If they are, the map is that of the program.
-pub fn read(program: &[u32], map: &mut Map) -> bool
-    ensures { ReadSays program.now map.new result }
+// Fills in the map, if the words are a program.
+fn fill(program: &[u32], map: &mut Map) -> Option<()>
+    ensures { Fills program.now map.new result }
 {
     let words = program.len();
-    if words > 16384 {
-        return false;
-    }
-    if words == 0 {
-        return false;
+    if words == 0 || words > 16384 {
+        return None;
     }
     let count = program[0] as usize;
     if count > 256 {
-        return false;
+        return None;
     }
-    match points_end(program, 1, count, &mut map.points) {
-        None => false,
-        Some(sides) => {
-            if words - sides < count {
-                return false;
-            }
-            match processes_end(program, sides + count, &mut map.processes, &mut map.second) {
-                None => false,
-                Some(processes) => {
-                    map.point_count = count;
-                    map.sides = sides;
-                    map.process_count = processes;
-                    true
-                }
-            }
-        }
+    let sides = points_end(program, 1, count, &mut map.points)?;
+    if words - sides < count {
+        return None;
     }
+    let processes = processes_end(program, sides + count, &mut map.processes, &mut map.second)?;
+    map.point_count = count;
+    map.sides = sides;
+    map.process_count = processes;
+    Some(())
+}
+
+// The rows of a program, if the words are one. The map is lent for what is found in them.
+pub fn read<'a>(program: &'a [u32], map: &'a mut Map) -> Option<Rows<'a>>
+    ensures { ReadSays program.now result }
+{
+    fill(program, &mut *map)?;
+    Some(Rows {
+        words: program,
+        map: &*map,
+    })
 }

@@ -1,0 +1,6 @@
+use Rattle.std.proofs.Common.{arith}
+use Rattle.rows.proofs.Lookups.{no_other}
+use Rattle.rows.proofs.lookup.Rows.other.Goals as goal
+
+pub returns-then-i-self : goal.returns-then-i-self
+returns-then-i-self c g known = no_other c.args.self.now.words.now c.args.self.now.map.now g known c.args.point (omega arith)

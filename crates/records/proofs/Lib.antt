@@ -1,4 +1,3 @@
 -- The laws of tables and of records in words.
 pub mod TableLaws
 pub mod RecordLaws
-pub mod PushLaws

@@ -1,139 +1,161 @@
--- A word written in a record: that record has one field changed, all others are as they were.
-use Rattle.std.proofs.Common.{◌≡◌, ℕ, zero, suc, ◌+◌, ◌*◌, ◌<◌, ◌≤◌, min, ◌≢◌, List, [], ◌∷◌, length, set, refl, ap, ◌∙◌, arith, length-set, get_or-set_other, get_or-set_same}
-use mathlib.Core.Option.{none}
-use Rattle.model.specs.Program.{put}
-use Rattle.model.specs.Steps.{State}
+-- Words written in a record: one variable or end is another, or there is one more.
+use Rattle.std.proofs.Common.{◌≡◌, ℕ, zero, suc, ◌+◌, ◌<◌, ◌≤◌, min, Bool, not, eqb, List, [], ◌∷◌, ◌++◌, length, get_or, take, drop, set, sym, refl, ap, ◌∙◌, arith, drop-cons, length-set, get_or-set_other, get_or-set_same, ◌≢◌}
+use mathlib.Core.Option.{Option, some, none}
+use Rattle.model.specs.Program.{or, put, bit}
+use Rattle.model.specs.Steps.{Endpoint, end}
 use Rattle.records.specs.Tables.{table}
-use Rattle.records.specs.Records.{Record, word, state_of, end_of, vars_at, ends_at, record_at, Kept, moved, spends, assigned, ended, cleared}
-use Rattle.records.proofs.TableLaws.{table_same, table_put, length_table}
+use Rattle.records.specs.Records.{Record, end_of, vars_of, ends_of, record_of, record_at, Kept, assigned, cleared, with_end, with_number}
+use Rattle.records.proofs.TableLaws.{table_same, table_put, table_snoc, nth_table, nth_table_past, length_table}
 
 -- the words of the variables decide them, and those of the ends decide these
-pub vars_at_same : (s s' : List ℕ) (i : ℕ) → word s' i 4 ≡ word s i 4 → ((k : ℕ) → k < 16 → word s' i (16 + k) ≡ word s i (16 + k)) → vars_at s' i ≡ vars_at s i
-vars_at_same s s' i e h =
-    let t : table (λ k. word s' i (16 + k)) 0 (min (word s i 4) 16) ≡ table (λ k. word s i (16 + k)) 0 (min (word s i 4) 16) =
-    table_same (λ k. word s i (16 + k)) (λ k. word s' i (16 + k)) 0 (min (word s i 4) 16) (λ k p q. h k (omega arith)) in
-    cc
+vars_same : (w w' : List ℕ) → get_or w' 4 0 ≡ get_or w 4 0 → ((k : ℕ) → k < 16 → get_or w' (16 + k) 0 ≡ get_or w (16 + k) 0) → vars_of w' ≡ vars_of w
+vars_same w w' e h =
+    ap (λ n. table (λ k. get_or w' (16 + k) 0) 0 (min n 16)) e
+    ∙ table_same (λ k. get_or w (16 + k) 0) (λ k. get_or w' (16 + k) 0) 0 (min (get_or w 4 0) 16) (λ k p q. h k (omega arith))
 
-pub ends_at_same : (s s' : List ℕ) (i : ℕ) → word s' i 5 ≡ word s i 5 → ((k : ℕ) → k < 16 → word s' i (32 + k) ≡ word s i (32 + k)) → ((k : ℕ) → k < 16 → word s' i (48 + k) ≡ word s i (48 + k)) → ends_at s' i ≡ ends_at s i
-ends_at_same s s' i e h1 h2 =
-    let t : table (λ k. end_of (word s' i (32 + k)) (word s' i (48 + k))) 0 (min (word s i 5) 16) ≡ table (λ k. end_of (word s i (32 + k)) (word s i (48 + k))) 0 (min (word s i 5) 16) =
-    table_same (λ k. end_of (word s i (32 + k)) (word s i (48 + k))) (λ k. end_of (word s' i (32 + k)) (word s' i (48 + k))) 0 (min (word s i 5) 16)
-    (λ k p q. let a = h1 k (omega arith) in let b = h2 k (omega arith) in cc) in
-    cc
+ends_same : (w w' : List ℕ) → get_or w' 5 0 ≡ get_or w 5 0 → ((k : ℕ) → k < 16 → get_or w' (32 + k) 0 ≡ get_or w (32 + k) 0) → ((k : ℕ) → k < 16 → get_or w' (48 + k) 0 ≡ get_or w (48 + k) 0) → ends_of w' ≡ ends_of w
+ends_same w w' e h1 h2 =
+    ap (λ n. table (λ k. end_of (get_or w' (32 + k) 0) (get_or w' (48 + k) 0)) 0 (min n 16)) e
+    ∙ table_same (λ k. end_of (get_or w (32 + k) 0) (get_or w (48 + k) 0)) (λ k. end_of (get_or w' (32 + k) 0) (get_or w' (48 + k) 0)) 0 (min (get_or w 5 0) 16)
+    (λ k p q. let a = h1 k (omega arith) in let b = h2 k (omega arith) in ap (λ l. end_of l (get_or w' (48 + k) 0)) a ∙ ap (end_of (get_or w (32 + k) 0)) b)
 
-pub record_at_same : (s s' : List ℕ) (j : ℕ) → ((m : ℕ) → m < 64 → word s' j m ≡ word s j m) → record_at s' j ≡ record_at s j
-record_at_same s s' j h =
-    let e1 = h 1 (omega arith) in
-    let e2 = h 2 (omega arith) in
-    let e3 = h 3 (omega arith) in
-    let v = vars_at_same s s' j (h 4 (omega arith)) (λ k p. h (16 + k) (omega arith)) in
-    let e = ends_at_same s s' j (h 5 (omega arith)) (λ k p. h (32 + k) (omega arith)) (λ k p. h (48 + k) (omega arith)) in
-    cc
-
--- words of other records are as they were
-abbrev pub Beside : List ℕ → List ℕ → ℕ → Type 0
-Beside s s' i = (j m : ℕ) → (j ≡ i → ⊥) → m < 64 → word s' j m ≡ word s j m
-
-pub kept : (s s' : List ℕ) (i : ℕ) (r : Record) → length s' ≡ length s → Beside s s' i → record_at s' i ≡ r → Kept s s' i r
-kept s s' i r l b e = record { long = l; at = e; others = λ j ne. record_at_same s s' j (λ m h. b j m ne h) }
-
--- one word written
-module _ (s : List ℕ) (i k v : ℕ) (small : k < 64) (room : 64 * i + 64 ≤ length s) where
-  pub word_set_same : word (set s (64 * i + k) v) i k ≡ v
-  word_set_same = get_or-set_same s (64 * i + k) v 0 (omega arith)
-
-  pub word_set_other : (m : ℕ) → (m ≡ k → ⊥) → word (set s (64 * i + k) v) i m ≡ word s i m
-  word_set_other m ne =
-      let d : 64 * i + m ≢ 64 * i + k = omega arith in
-      get_or-set_other s (64 * i + k) (64 * i + m) v 0 d
-
-  pub set_beside : Beside s (set s (64 * i + k) v) i
-  set_beside j m ne h =
-      let d : 64 * j + m ≢ 64 * i + k = omega arith in
-      get_or-set_other s (64 * i + k) (64 * j + m) v 0 d
-
-  -- in the front of the record
-  module _ (front : k < 4) where
-    front_vars : vars_at (set s (64 * i + k) v) i ≡ vars_at s i
-    front_vars = vars_at_same s (set s (64 * i + k) v) i (word_set_other 4 (λ z. omega arith)) (λ m h. word_set_other (16 + m) (λ z. omega arith))
-
-    front_ends : ends_at (set s (64 * i + k) v) i ≡ ends_at s i
-    front_ends = ends_at_same s (set s (64 * i + k) v) i (word_set_other 5 (λ z. omega arith)) (λ m h. word_set_other (32 + m) (λ z. omega arith)) (λ m h. word_set_other (48 + m) (λ z. omega arith))
-
-pub put_past : {A : Type 0} (xs : List A) (n : ℕ) (v : A) → length xs ≤ n → put xs n v ≡ xs
+put_past : {A : Type 0} (xs : List A) (n : ℕ) (v : A) → length xs ≤ n → put xs n v ≡ xs
 put_past [] n v h = refl
 put_past (x ∷ xs) zero v h = absurd (omega arith)
 put_past (x ∷ xs) (suc n) v h = ap (λ ys. x ∷ ys) (put_past xs n v (omega arith))
 
--- One field of a record is another.
-module _ (s : List ℕ) (i : ℕ) (room : 64 * i + 64 ≤ length s) where
-  pub place_kept : (v : ℕ) → Kept s (set s (64 * i + 1) v) i (moved (record_at s i) v)
-  place_kept v =
-      let a = word_set_same s i 1 v (omega arith) room in
-      let b = word_set_other s i 1 v (omega arith) room 2 (λ z. omega arith) in
-      let d = word_set_other s i 1 v (omega arith) room 3 (λ z. omega arith) in
-      let f = front_vars s i 1 v (omega arith) room (omega arith) in
-      let g = front_ends s i 1 v (omega arith) room (omega arith) in
-      kept s (set s (64 * i + 1) v) i (moved (record_at s i) v) (length-set s (64 * i + 1) v) (set_beside s i 1 v (omega arith) room) (cc)
+-- how many there are, by their word
+pub vars_long : (w : List ℕ) → length (vars_of w) ≡ min (get_or w 4 0) 16
+vars_long w = length_table (λ k. get_or w (16 + k) 0) 0 (min (get_or w 4 0) 16)
 
-  pub turns_kept : (v : ℕ) → Kept s (set s (64 * i + 2) v) i (spends (record_at s i) v)
-  turns_kept v =
-      let a = word_set_same s i 2 v (omega arith) room in
-      let b = word_set_other s i 2 v (omega arith) room 1 (λ z. omega arith) in
-      let d = word_set_other s i 2 v (omega arith) room 3 (λ z. omega arith) in
-      let f = front_vars s i 2 v (omega arith) room (omega arith) in
-      let g = front_ends s i 2 v (omega arith) room (omega arith) in
-      kept s (set s (64 * i + 2) v) i (spends (record_at s i) v) (length-set s (64 * i + 2) v) (set_beside s i 2 v (omega arith) room) (cc)
+pub ends_long : (w : List ℕ) → length (ends_of w) ≡ min (get_or w 5 0) 16
+ends_long w = length_table (λ k. end_of (get_or w (32 + k) 0) (get_or w (48 + k) 0)) 0 (min (get_or w 5 0) 16)
 
-  pub state_kept : (v : ℕ) (k : State) → state_of v ≡ k → Kept s (set s (64 * i + 3) v) i (ended (record_at s i) k)
-  state_kept v k is =
-      let a = ap state_of (word_set_same s i 3 v (omega arith) room) ∙ is in
-      let b = word_set_other s i 3 v (omega arith) room 1 (λ z. omega arith) in
-      let d = word_set_other s i 3 v (omega arith) room 2 (λ z. omega arith) in
-      let f = front_vars s i 3 v (omega arith) room (omega arith) in
-      let g = front_ends s i 3 v (omega arith) room (omega arith) in
-      kept s (set s (64 * i + 3) v) i (ended (record_at s i) k) (length-set s (64 * i + 3) v) (set_beside s i 3 v (omega arith) room) (cc)
-
-  pub variable_kept : (x v : ℕ) → x < min (word s i 4) 16 → Kept s (set s (64 * i + (16 + x)) v) i (assigned (record_at s i) x v)
-  variable_kept x v h =
-      let small : 16 + x < 64 = omega arith in
-      let s' = set s (64 * i + (16 + x)) v in
-      let o : (m : ℕ) → (m ≡ 16 + x → ⊥) → word s' i m ≡ word s i m = word_set_other s i (16 + x) v small room in
+module _ (w : List ℕ) (long : length w ≡ 64) where
+  -- one variable is another
+  pub variable_set : (x v : ℕ) → x < length (vars_of w) → record_of (set w (16 + x) v) ≡ assigned (record_of w) x v
+  variable_set x v h =
+      let l = vars_long w in
+      let w' = set w (16 + x) v in
+      let o : (m : ℕ) → (m ≢ 16 + x) → get_or w' m 0 ≡ get_or w m 0 = λ m ne. get_or-set_other w (16 + x) m v 0 ne in
       let e1 = o 1 (λ z. omega arith) in
       let e2 = o 2 (λ z. omega arith) in
       let e3 = o 3 (λ z. omega arith) in
-      let e4 = o 4 (λ z. omega arith) in
-      let a = word_set_same s i (16 + x) v small room in
-      let f : table (λ k. word s' i (16 + k)) 0 (min (word s i 4) 16) ≡ put (vars_at s i) x v =
-      table_put (λ k. word s i (16 + k)) (λ k. word s' i (16 + k)) 0 (min (word s i 4) 16) x v (λ k p q ne. o (16 + k) (λ z. ne (omega arith))) (λ p. let z : 0 + x ≡ x = omega arith in ap (λ k. word s' i (16 + k)) z ∙ a) in
-      let g = ends_at_same s s' i (o 5 (λ z. omega arith)) (λ m q. o (32 + m) (λ z. omega arith)) (λ m q. o (48 + m) (λ z. omega arith)) in
-      kept s s' i (assigned (record_at s i) x v) (length-set s (64 * i + (16 + x)) v) (set_beside s i (16 + x) v small room) (cc)
+      let a : get_or w' (16 + x) 0 ≡ v = get_or-set_same w (16 + x) v 0 (omega arith) in
+      let f : vars_of w' ≡ put (vars_of w) x v =
+      ap (λ n. table (λ k. get_or w' (16 + k) 0) 0 (min n 16)) (o 4 (λ z. omega arith))
+      ∙ table_put (λ k. get_or w (16 + k) 0) (λ k. get_or w' (16 + k) 0) 0 (min (get_or w 4 0) 16) x v (λ k p q ne. o (16 + k) (λ z. ne (omega arith))) (λ p. let z : 0 + x ≡ x = omega arith in ap (λ k. get_or w' (16 + k) 0) z ∙ a) in
+      let g = ends_same w w' (o 5 (λ z. omega arith)) (λ m q. o (32 + m) (λ z. omega arith)) (λ m q. o (48 + m) (λ z. omega arith)) in
+      cc
 
-  pub variable_past : (x v : ℕ) → min (word s i 4) 16 ≤ x → Kept s s i (assigned (record_at s i) x v)
-  variable_past x v h =
-      let l = length_table (λ k. word s i (16 + k)) 0 (min (word s i 4) 16) in
-      let p = put_past (vars_at s i) x v (omega arith) in
-      kept s s i (assigned (record_at s i) x v) refl (λ j m ne q. refl) (cc)
+  pub variable_past : (x v : ℕ) → length (vars_of w) ≤ x → record_of w ≡ assigned (record_of w) x v
+  variable_past x v h = let p = put_past (vars_of w) x v h in cc
 
-  pub clear_kept : (x : ℕ) → x < min (word s i 5) 16 → Kept s (set s (64 * i + (48 + x)) 0) i (cleared (record_at s i) x)
-  clear_kept x h =
-      let small : 48 + x < 64 = omega arith in
-      let s' = set s (64 * i + (48 + x)) 0 in
-      let o : (m : ℕ) → (m ≡ 48 + x → ⊥) → word s' i m ≡ word s i m = word_set_other s i (48 + x) 0 small room in
+  -- an end is handed on
+  pub end_cleared : (x : ℕ) → x < length (ends_of w) → record_of (set w (48 + x) 0) ≡ cleared (record_of w) x
+  end_cleared x h =
+      let l = ends_long w in
+      let w' = set w (48 + x) 0 in
+      let o : (m : ℕ) → (m ≢ 48 + x) → get_or w' m 0 ≡ get_or w m 0 = λ m ne. get_or-set_other w (48 + x) m 0 0 ne in
       let e1 = o 1 (λ z. omega arith) in
       let e2 = o 2 (λ z. omega arith) in
       let e3 = o 3 (λ z. omega arith) in
-      let e5 = o 5 (λ z. omega arith) in
-      let a = word_set_same s i (48 + x) 0 small room in
-      let g : table (λ k. end_of (word s' i (32 + k)) (word s' i (48 + k))) 0 (min (word s i 5) 16) ≡ put (ends_at s i) x none =
-      table_put (λ k. end_of (word s i (32 + k)) (word s i (48 + k))) (λ k. end_of (word s' i (32 + k)) (word s' i (48 + k))) 0 (min (word s i 5) 16) x none
-      (λ k p q ne. let y = o (32 + k) (λ z. omega arith) in let y2 = o (48 + k) (λ z. ne (omega arith)) in cc)
-      (λ p. let z : 0 + x ≡ x = omega arith in ap (λ k. end_of (word s' i (32 + k)) (word s' i (48 + k))) z ∙ ap (λ n. end_of (word s' i (32 + x)) n) a) in
-      let f = vars_at_same s s' i (o 4 (λ z. omega arith)) (λ m q. o (16 + m) (λ z. omega arith)) in
-      kept s s' i (cleared (record_at s i) x) (length-set s (64 * i + (48 + x)) 0) (set_beside s i (48 + x) 0 small room) (cc)
+      let a : get_or w' (48 + x) 0 ≡ 0 = get_or-set_same w (48 + x) 0 0 (omega arith) in
+      let f = vars_same w w' (o 4 (λ z. omega arith)) (λ m q. o (16 + m) (λ z. omega arith)) in
+      let g : ends_of w' ≡ put (ends_of w) x none =
+      ap (λ n. table (λ k. end_of (get_or w' (32 + k) 0) (get_or w' (48 + k) 0)) 0 (min n 16)) (o 5 (λ z. omega arith))
+      ∙ table_put (λ k. end_of (get_or w (32 + k) 0) (get_or w (48 + k) 0)) (λ k. end_of (get_or w' (32 + k) 0) (get_or w' (48 + k) 0)) 0 (min (get_or w 5 0) 16) x none
+      (λ k p q ne. ap (λ n. end_of n (get_or w' (48 + k) 0)) (o (32 + k) (λ z. omega arith)) ∙ ap (end_of (get_or w (32 + k) 0)) (o (48 + k) (λ z. ne (omega arith))))
+      (λ p. let z : 0 + x ≡ x = omega arith in ap (λ k. end_of (get_or w' (32 + k) 0) (get_or w' (48 + k) 0)) z ∙ ap (end_of (get_or w' (32 + x) 0)) a) in
+      cc
 
-  pub clear_past : (x : ℕ) → min (word s i 5) 16 ≤ x → Kept s s i (cleared (record_at s i) x)
-  clear_past x h =
-      let l = length_table (λ k. end_of (word s i (32 + k)) (word s i (48 + k))) 0 (min (word s i 5) 16) in
-      let p = put_past (ends_at s i) x none (omega arith) in
-      kept s s i (cleared (record_at s i) x) refl (λ j m ne q. refl) (cc)
+  pub cleared_past : (x : ℕ) → length (ends_of w) ≤ x → record_of w ≡ cleared (record_of w) x
+  cleared_past x h = let p = put_past (ends_of w) x none h in cc
+
+  -- one variable more
+  pub variable_pushed : (n v : ℕ) → n ≡ length (vars_of w) → n < 16 → record_of (set (set w (16 + n) v) 4 (n + 1)) ≡ with_number (record_of w) v
+  variable_pushed n v is few =
+      let l = vars_long w in
+      let w1 = set w (16 + n) v in
+      let w' = set w1 4 (n + 1) in
+      let l1 = length-set w (16 + n) v in
+      let o : (m : ℕ) → (m ≢ 16 + n) → (m ≢ 4) → get_or w' m 0 ≡ get_or w m 0 = λ m p q. get_or-set_other w1 4 m (n + 1) 0 q ∙ get_or-set_other w (16 + n) m v 0 p in
+      let e1 = o 1 (λ z. omega arith) (λ z. omega arith) in
+      let e2 = o 2 (λ z. omega arith) (λ z. omega arith) in
+      let e3 = o 3 (λ z. omega arith) (λ z. omega arith) in
+      let a : get_or w' (16 + n) 0 ≡ v = get_or-set_other w1 4 (16 + n) (n + 1) 0 (λ z. omega arith) ∙ get_or-set_same w (16 + n) v 0 (omega arith) in
+      let b : get_or w' 4 0 ≡ n + 1 = get_or-set_same w1 4 (n + 1) 0 (omega arith) in
+      let m1 : min (get_or w' 4 0) 16 ≡ suc n = omega arith in
+      let m2 : min (get_or w 4 0) 16 ≡ n = omega arith in
+      let z : 0 + n ≡ n = omega arith in
+      let t : table (λ k. get_or w' (16 + k) 0) 0 n ≡ table (λ k. get_or w (16 + k) 0) 0 n = table_same (λ k. get_or w (16 + k) 0) (λ k. get_or w' (16 + k) 0) 0 n (λ k p q. o (16 + k) (λ z. omega arith) (λ z. omega arith)) in
+      let f : vars_of w' ≡ vars_of w ++ (v ∷ []) =
+      ap (table (λ k. get_or w' (16 + k) 0) 0) m1 ∙ (table_snoc (λ k. get_or w' (16 + k) 0) 0 n ∙ (ap (λ y. table (λ k. get_or w' (16 + k) 0) 0 n ++ (y ∷ [])) (ap (λ k. get_or w' (16 + k) 0) z ∙ a) ∙ ap (λ y. y ++ (v ∷ [])) (t ∙ sym (ap (table (λ k. get_or w (16 + k) 0) 0) m2)))) in
+      let g = ends_same w w' (o 5 (λ z. omega arith) (λ z. omega arith)) (λ m q. o (32 + m) (λ z. omega arith) (λ z. omega arith)) (λ m q. o (48 + m) (λ z. omega arith) (λ z. omega arith)) in
+      cc
+
+  -- one end more
+  pub end_pushed : (n l c : ℕ) (e : Option Endpoint) → n ≡ length (ends_of w) → n < 16 → end_of l c ≡ e → record_of (set (set (set w (32 + n) l) (48 + n) c) 5 (n + 1)) ≡ with_end (record_of w) e
+  end_pushed n l c e is few code =
+      let k = ends_long w in
+      let w1 = set w (32 + n) l in
+      let w2 = set w1 (48 + n) c in
+      let w' = set w2 5 (n + 1) in
+      let l1 = length-set w (32 + n) l in
+      let l2 = length-set w1 (48 + n) c in
+      let o : (m : ℕ) → (m ≢ 32 + n) → (m ≢ 48 + n) → (m ≢ 5) → get_or w' m 0 ≡ get_or w m 0 =
+      λ m p q r. get_or-set_other w2 5 m (n + 1) 0 r ∙ (get_or-set_other w1 (48 + n) m c 0 q ∙ get_or-set_other w (32 + n) m l 0 p) in
+      let e1 = o 1 (λ z. omega arith) (λ z. omega arith) (λ z. omega arith) in
+      let e2 = o 2 (λ z. omega arith) (λ z. omega arith) (λ z. omega arith) in
+      let e3 = o 3 (λ z. omega arith) (λ z. omega arith) (λ z. omega arith) in
+      let a : get_or w' (32 + n) 0 ≡ l = get_or-set_other w2 5 (32 + n) (n + 1) 0 (λ z. omega arith) ∙ (get_or-set_other w1 (48 + n) (32 + n) c 0 (λ z. omega arith) ∙ get_or-set_same w (32 + n) l 0 (omega arith)) in
+      let b : get_or w' (48 + n) 0 ≡ c = get_or-set_other w2 5 (48 + n) (n + 1) 0 (λ z. omega arith) ∙ get_or-set_same w1 (48 + n) c 0 (omega arith) in
+      let d : get_or w' 5 0 ≡ n + 1 = get_or-set_same w2 5 (n + 1) 0 (omega arith) in
+      let F : ℕ → Option Endpoint = λ k. end_of (get_or w (32 + k) 0) (get_or w (48 + k) 0) in
+      let G : ℕ → Option Endpoint = λ k. end_of (get_or w' (32 + k) 0) (get_or w' (48 + k) 0) in
+      let m1 : min (get_or w' 5 0) 16 ≡ suc n = omega arith in
+      let m2 : min (get_or w 5 0) 16 ≡ n = omega arith in
+      let z : 0 + n ≡ n = omega arith in
+      let t0 : G (0 + n) ≡ e = ap G z ∙ (ap (λ y. end_of y (get_or w' (48 + n) 0)) a ∙ (ap (end_of l) b ∙ code)) in
+      let t : table G 0 n ≡ table F 0 n = table_same F G 0 n (λ k p q. ap (λ y. end_of y (get_or w' (48 + k) 0)) (o (32 + k) (λ z. omega arith) (λ z. omega arith) (λ z. omega arith)) ∙ ap (end_of (get_or w (32 + k) 0)) (o (48 + k) (λ z. omega arith) (λ z. omega arith) (λ z. omega arith))) in
+      let f = vars_same w w' (o 4 (λ z. omega arith) (λ z. omega arith) (λ z. omega arith)) (λ m q. o (16 + m) (λ z. omega arith) (λ z. omega arith) (λ z. omega arith)) in
+      let g : ends_of w' ≡ ends_of w ++ (e ∷ []) = ap (table G 0) m1 ∙ (table_snoc G 0 n ∙ (ap (λ y. table G 0 n ++ (y ∷ [])) t0 ∙ ap (λ y. y ++ (e ∷ [])) (t ∙ sym (ap (table F 0) m2)))) in
+      cc
+
+-- the end of a conversation
+pub end_there : (w : List ℕ) (c : ℕ) → c < length (ends_of w) → end_of (get_or w (32 + c) 0) (get_or w (48 + c) 0) ≡ end (ends_of w) c
+end_there w c h =
+    let l = ends_long w in
+    let z : 0 + c ≡ c = omega arith in
+    sym (ap (λ o. or none o) (nth_table (λ k. end_of (get_or w (32 + k) 0) (get_or w (48 + k) 0)) 0 (min (get_or w 5 0) 16) c (omega arith)) ∙ ap (λ k. end_of (get_or w (32 + k) 0) (get_or w (48 + k) 0)) z)
+
+pub end_past : (w : List ℕ) (c : ℕ) → length (ends_of w) ≤ c → none ≡ end (ends_of w) c
+end_past w c h =
+    let l = ends_long w in
+    sym (ap (λ o. or none o) (nth_table_past (λ k. end_of (get_or w (32 + k) 0) (get_or w (48 + k) 0)) 0 (min (get_or w 5 0) 16) c (omega arith)))
+
+pub end_some : (w : List ℕ) (c : ℕ) → c < length (ends_of w) → (get_or w (48 + c) 0 ≡ 0 → ⊥) → some (record { line = get_or w (32 + c) 0; side = bit (not (eqb (get_or w (48 + c) 0) 1)) }) ≡ end (ends_of w) c
+end_some w c h ne = go (get_or w (48 + c) 0) ne ∙ end_there w c h
+  where
+    go : (k : ℕ) → (k ≡ 0 → ⊥) → some (record { line = get_or w (32 + c) 0; side = bit (not (eqb k 1)) }) ≡ end_of (get_or w (32 + c) 0) k
+    go k ne = grind arith
+
+-- a table of words is a part of the list
+take_table : (s : List ℕ) (b p n : ℕ) → b + p + n ≤ length s → take n (drop (b + p) s) ≡ table (λ k. get_or s (b + k) 0) p n
+take_table s b p zero h = refl
+take_table s b p (suc n) h =
+    let e : drop (b + p) s ≡ get_or s (b + p) 0 ∷ drop (suc (b + p)) s = drop-cons s (b + p) 0 (omega arith) in
+    let z : suc (b + p) ≡ b + suc p = omega arith in
+    let t = take_table s b (suc p) n (omega arith) in
+    ap (take (suc n)) e ∙ ap (λ l. get_or s (b + p) 0 ∷ l) (ap (λ k. take n (drop k s)) z ∙ t)
+
+pub vars_part : (w : List ℕ) (n : ℕ) → n ≡ length (vars_of w) → 16 + n ≤ length w → take n (drop 16 w) ≡ vars_of w
+vars_part w n is room = take_table w 16 0 n (omega arith) ∙ ap (table (λ k. get_or w (16 + k) 0) 0) (is ∙ vars_long w)
+
+-- Record i was written: it is what its words are, all others are as they were.
+pub kept_set : (s : List (List ℕ)) (i : ℕ) (w : List ℕ) (r : Record) → i < length s → record_of w ≡ r → Kept s (set s i w) i r
+kept_set s i w r there is = record {
+  long = length-set s i w;
+  at = ap record_of (get_or-set_same s i w [] there) ∙ is;
+  others = λ j ne. ap record_of (get_or-set_other s i j w [] ne);
+}

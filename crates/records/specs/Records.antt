@@ -1,7 +1,7 @@
 -- The records of processes in lent words. A record has 64 words:
 --   1 the place in the rows · 2 turns left · 3 state · 4 how many variables · 5 how many ends ·
 --   16 to 31 variables · 32 to 47 lines of ends · 48 to 63 sides of ends.
-use Rattle.std.specs.Prelude.{◌≡◌, ℕ, ◌+◌, ◌*◌, min, cond, List, [], ◌∷◌, ◌++◌, length, Some, None, Option as Maybe, ◌==◌, ◌≢◌, slice_index}
+use Rattle.std.specs.Prelude.{◌≡◌, ℕ, ◌+◌, min, cond, List, [], ◌∷◌, ◌++◌, length, Some, None, Option as Maybe, ◌==◌, ◌≢◌, slice_index, slice_index_or}
 use Rattle.std.proofs.Math.Option.{Option, some, none}
 use Rattle.model.specs.Program.{put, bit}
 use Rattle.model.specs.Steps.{Endpoint, State, running, stopped, spent}
@@ -18,10 +18,6 @@ pub record Record : Type 0 where
   pub vars : List ℕ
   pub ends : List (Option Endpoint)
 
--- word k of record i
-abbrev pub word : List ℕ → ℕ → ℕ → ℕ
-word s i k = slice_index s (64 * i + k)
-
 -- a state by its code
 abbrev pub state_of : ℕ → State
 state_of n = cond (n == 0) running (cond (n == 1) stopped spent)
@@ -30,19 +26,23 @@ state_of n = cond (n == 0) running (cond (n == 1) stopped spent)
 abbrev pub end_of : ℕ → ℕ → Option Endpoint
 end_of l s = cond (s == 0) none (some (record { line = l; side = cond (s == 1) 0 1 }))
 
--- variables and ends of record i, at most sixteen
-abbrev pub vars_at : List ℕ → ℕ → List ℕ
-vars_at s i = table (λ k. word s i (16 + k)) 0 (min (word s i 4) 16)
+-- variables and ends of a record, at most sixteen
+abbrev pub vars_of : List ℕ → List ℕ
+vars_of w = table (λ k. slice_index w (16 + k)) 0 (min (slice_index w 4) 16)
 
-abbrev pub ends_at : List ℕ → ℕ → List (Option Endpoint)
-ends_at s i = table (λ k. end_of (word s i (32 + k)) (word s i (48 + k))) 0 (min (word s i 5) 16)
+abbrev pub ends_of : List ℕ → List (Option Endpoint)
+ends_of w = table (λ k. end_of (slice_index w (32 + k)) (slice_index w (48 + k))) 0 (min (slice_index w 5) 16)
+
+-- the record that words are
+abbrev pub record_of : List ℕ → Record
+record_of w = record { place = slice_index w 1; left = slice_index w 2; state = state_of (slice_index w 3); vars = vars_of w; ends = ends_of w }
 
 -- record i
-abbrev pub record_at : List ℕ → ℕ → Record
-record_at s i = record { place = word s i 1; left = word s i 2; state = state_of (word s i 3); vars = vars_at s i; ends = ends_at s i }
+abbrev pub record_at : List (List ℕ) → ℕ → Record
+record_at s i = record_of (slice_index_or s i [])
 
 -- Record i is now r; all other records are as they were.
-pub record Kept (s s' : List ℕ) (i : ℕ) (r : Record) : Type 0 where
+pub record Kept (s s' : List (List ℕ)) (i : ℕ) (r : Record) : Type 0 where
   pub long : length s' ≡ length s
   pub at : record_at s' i ≡ r
   pub others : (j : ℕ) → (j ≢ i) → record_at s' j ≡ record_at s j

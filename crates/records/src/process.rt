@@ -1,8 +1,11 @@
 // The records of processes in lent words, each of 64: nothing above this file knows where in a record a field stands.
-ghost use Rattle.std.specs.Prelude.{◌≡◌, ◌+◌, ◌*◌, ◌<◌, ◌≤◌, length};
+ghost use Rattle.std.specs.Prelude.{◌≡◌, ◌<◌, ◌≤◌, length};
 ghost use Rattle.model.specs.Steps.{end};
-ghost use Rattle.records.specs.Records.{record_at, Kept, moved, assigned, ended, cleared, begins, spends, viewed};
+ghost use Rattle.records.specs.Records.{record_of, moved, assigned, ended, cleared, begins, spends, viewed};
 ghost use Rattle.records.specs.Records.{with_end, with_number, state_is, state_of, end_of};
+
+// The words of one process.
+pub type Record = [u32; 64];
 
 // Where in a record the place, the turns, the state, the number of variables and that of conversations stand. From word
 // 16 on stand the variables, from 32 on the lines of the ends and from 48 on their sides.
@@ -17,14 +20,14 @@ const VARIABLES: usize = 4;
 const CONVERSATIONS: usize = 5;
 
 // An end of a line: the line, and whether it is the started process's side of it.
-#[derive(Clone, Copy)]
+#[derive(Clone, Copy, PartialEq, Eq, Debug)]
 pub struct End {
     pub line: u32,
     pub far: bool,
 }
 
 // How a process stands: it goes on or waits, it has stopped, or it is out of turns.
-#[derive(Clone, Copy)]
+#[derive(Clone, Copy, PartialEq, Eq, Debug)]
 pub enum Standing {
     Running,
     Stopped,
@@ -32,44 +35,38 @@ pub enum Standing {
 }
 
 // Where in the rows a process is.
-pub fn place(words: &[u32], i: usize) -> usize
-    requires { 64 * i + 64 ≤ length words.now }
-    ensures { result ≡ (record_at words.now i).place }
+pub fn place(of: &Record) -> usize
+    ensures { result ≡ (record_of of.now).place }
 {
-    words[64 * i + PLACE] as usize
+    of[PLACE] as usize
 }
 
 // Puts a process at another place.
-pub fn set_place(words: &mut [u32], i: usize, to: u32)
-    requires { 64 * i + 64 ≤ length words.old }
-    ensures { Kept words.old words.new i (moved (record_at words.old i) to) }
+pub fn set_place(process: &mut Record, to: u32)
+    ensures { record_of process.new ≡ moved (record_of process.old) to }
 {
-    words[64 * i + PLACE] = to;
+    process[PLACE] = to;
 }
 
 // How many turns a process has left.
-pub fn turns(words: &[u32], i: usize) -> u32
-    requires { 64 * i + 64 ≤ length words.now }
-    ensures { result ≡ (record_at words.now i).left }
+pub fn turns(of: &Record) -> u32
+    ensures { result ≡ (record_of of.now).left }
 {
-    words[64 * i + TURNS]
+    of[TURNS]
 }
 
 // Sets how many turns a process has left.
-pub fn set_turns(words: &mut [u32], i: usize, left: u32)
-    requires { 64 * i + 64 ≤ length words.old }
-    ensures { Kept words.old words.new i (spends (record_at words.old i) left) }
+pub fn set_turns(process: &mut Record, left: u32)
+    ensures { record_of process.new ≡ spends (record_of process.old) left }
 {
-    let at = 64 * i + TURNS;
-    words[at] = left;
+    process[TURNS] = left;
 }
 
 // How a process stands.
-pub fn state(words: &[u32], i: usize) -> Standing
-    requires { 64 * i + 64 ≤ length words.now }
-    ensures { state_is result ≡ (record_at words.now i).state }
+pub fn state(of: &Record) -> Standing
+    ensures { state_is result ≡ (record_of of.now).state }
 {
-    match words[64 * i + STATE] {
+    match of[STATE] {
         0 => Standing::Running,
         1 => Standing::Stopped,
         _ => Standing::Spent,
@@ -77,106 +74,94 @@ pub fn state(words: &[u32], i: usize) -> Standing
 }
 
 // A process takes no further step.
-pub fn halt(words: &mut [u32], i: usize, how: Standing)
-    requires { 64 * i + 64 ≤ length words.old }
-    ensures { Kept words.old words.new i (ended (record_at words.old i) (state_is how)) }
+pub fn halt(process: &mut Record, how: Standing)
+    ensures { record_of process.new ≡ ended (record_of process.old) (state_is how) }
 {
-    words[64 * i + STATE] = state_code(how);
-}
-
-// The code of a state.
-fn state_code(how: Standing) -> u32
-    ensures { state_of result ≡ state_is how }
-{
-    match how {
-        Standing::Running => 0,
-        Standing::Stopped => 1,
-        Standing::Spent => 2,
-    }
+    process[STATE] = how as u32;
 }
 
 // The variables of a process.
-pub fn variables(words: &[u32], i: usize) -> &[u32]
-    requires { 64 * i + 64 ≤ length words.now }
-    ensures { result.now ≡ (record_at words.now i).vars }
+pub fn variables(of: &Record) -> &[u32]
+    ensures { result.now ≡ (record_of of.now).vars }
 {
-    let count = words[64 * i + VARIABLES].min(16) as usize;
-    &words[64 * i + 16..64 * i + 16 + count]
+    &of[16..16 + variables_count(of)]
+}
+
+// How many variables a process has.
+fn variables_count(of: &Record) -> usize
+    ensures is { result ≡ length (record_of of.now).vars }
+    ensures few { result ≤ 16 }
+{
+    of[VARIABLES].min(16) as usize
 }
 
 // Puts a number into a variable, if there is such a variable.
-pub fn set_variable(words: &mut [u32], i: usize, variable: u32, value: u32)
-    requires { 64 * i + 64 ≤ length words.old }
-    ensures { Kept words.old words.new i (assigned (record_at words.old i) variable value) }
+pub fn set_variable(process: &mut Record, variable: u32, value: u32)
+    ensures { record_of process.new ≡ assigned (record_of process.old) variable value }
 {
-    if variable < words[64 * i + VARIABLES].min(16) {
-        words[64 * i + (16 + variable as usize)] = value;
+    let variable = variable as usize;
+    if variable < variables_count(process) {
+        process[16 + variable] = value;
     }
 }
 
 // The end that a conversation of a process is.
-pub fn end_at(words: &[u32], i: usize, conversation: u32) -> Option<End>
-    requires { 64 * i + 64 ≤ length words.now }
-    ensures { viewed result ≡ end (record_at words.now i).ends conversation }
+pub fn end_at(of: &Record, conversation: u32) -> Option<End>
+    ensures { viewed result ≡ end (record_of of.now).ends conversation }
 {
-    if conversation >= words[64 * i + CONVERSATIONS].min(16) {
+    let k = conversation as usize;
+    if k >= ends_count(of) {
         return None;
     }
-    let k = conversation as usize;
-    let line = words[64 * i + (32 + k)];
-    let code = words[64 * i + (48 + k)];
+    let code = of[48 + k];
     if code == 0 {
         return None;
     }
     Some(End {
-        line,
+        line: of[32 + k],
         far: code != 1,
     })
 }
 
 // How many conversations a process has, handed on or not.
-pub fn ends_count(words: &[u32], i: usize) -> usize
-    requires { 64 * i + 64 ≤ length words.now }
-    ensures { result ≡ length (record_at words.now i).ends }
+pub fn ends_count(of: &Record) -> usize
+    ensures is { result ≡ length (record_of of.now).ends }
+    ensures few { result ≤ 16 }
 {
-    words[64 * i + CONVERSATIONS].min(16) as usize
+    of[CONVERSATIONS].min(16) as usize
 }
 
 // Takes a conversation from a process.
-pub fn clear_end(words: &mut [u32], i: usize, conversation: u32)
-    requires { 64 * i + 64 ≤ length words.old }
-    ensures { Kept words.old words.new i (cleared (record_at words.old i) conversation) }
+pub fn clear_end(process: &mut Record, conversation: u32)
+    ensures { record_of process.new ≡ cleared (record_of process.old) conversation }
 {
-    if conversation < words[64 * i + CONVERSATIONS].min(16) {
-        words[64 * i + (48 + conversation as usize)] = 0;
+    let k = conversation as usize;
+    if k < ends_count(process) {
+        process[48 + k] = 0;
     }
 }
 
 // A process begins, so far without conversations and variables.
-pub fn reset(words: &mut [u32], i: usize, to: u32, left: u32)
-    requires { 64 * i + 64 ≤ length words.old }
-    ensures { Kept words.old words.new i (begins to left) }
+pub fn reset(process: &mut Record, body: u32, most: u32)
+    ensures { record_of process.new ≡ begins body most }
 {
-    let start = 64 * i;
-    words[start + PLACE] = to;
-    words[start + TURNS] = left;
-    words[start + STATE] = 0;
-    words[start + VARIABLES] = 0;
-    words[start + CONVERSATIONS] = 0;
+    process[PLACE] = body;
+    process[TURNS] = most;
+    process[STATE] = Standing::Running as u32;
+    process[VARIABLES] = 0;
+    process[CONVERSATIONS] = 0;
 }
 
 // Gives a process one more conversation.
-pub fn push_end(words: &mut [u32], i: usize, end: Option<End>)
-    requires room { 64 * i + 64 ≤ length words.old }
-    requires few { length (record_at words.old i).ends < 16 }
-    ensures { Kept words.old words.new i (with_end (record_at words.old i) (viewed end)) }
+pub fn push_end(process: &mut Record, end: Option<End>)
+    requires { length (record_of process.old).ends < 16 }
+    ensures { record_of process.new ≡ with_end (record_of process.old) (viewed end) }
 {
-    let count = words[64 * i + CONVERSATIONS].min(15);
-    let k = count as usize;
+    let k = ends_count(process);
     let (line, code) = end_code(end);
-    words[64 * i + (32 + k)] = line;
-    words[64 * i + (48 + k)] = code;
-    words[64 * i + CONVERSATIONS] = count + 1;
+    process[32 + k] = line;
+    process[48 + k] = code;
+    process[CONVERSATIONS] = k as u32 + 1;
 }
 
 // The two words of an end.
@@ -185,22 +170,16 @@ fn end_code(end: Option<End>) -> (u32, u32)
 {
     match end {
         None => (0, 0),
-        Some(e) => {
-            if e.far {
-                return (e.line, 2);
-            }
-            (e.line, 1)
-        }
+        Some(End { line, far }) => (line, if far { 2 } else { 1 }),
     }
 }
 
 // Gives a process one more variable.
-pub fn push_variable(words: &mut [u32], i: usize, value: u32)
-    requires room { 64 * i + 64 ≤ length words.old }
-    requires few { length (record_at words.old i).vars < 16 }
-    ensures { Kept words.old words.new i (with_number (record_at words.old i) value) }
+pub fn push_variable(process: &mut Record, value: u32)
+    requires { length (record_of process.old).vars < 16 }
+    ensures { record_of process.new ≡ with_number (record_of process.old) value }
 {
-    let count = words[64 * i + VARIABLES].min(15);
-    words[64 * i + (16 + count as usize)] = value;
-    words[64 * i + VARIABLES] = count + 1;
+    let k = variables_count(process);
+    process[16 + k] = value;
+    process[VARIABLES] = k as u32 + 1;
 }

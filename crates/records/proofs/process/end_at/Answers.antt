@@ -1,15 +1,14 @@
-use Rattle.std.proofs.Common.{◌+◌, not, eqb, refl, arith}
-use Rattle.records.specs.Records.{word}
-use Rattle.records.proofs.PushLaws.{end_none, end_some, end_past}
+use Rattle.std.proofs.Common.{◌+◌, get_or, sym, ap, ◌∙◌, arith}
+use Rattle.records.specs.Records.{end_of}
+use Rattle.records.proofs.RecordLaws.{end_there, end_past, end_some}
 use Rattle.records.proofs.process.end_at.Goals as goal
 
-pub returns-then-conversation-min : goal.returns-then-conversation-min
-returns-then-conversation-min c = end_past c.args.words.now c.args.i c.requires c.args.conversation (omega arith)
+pub returns-then-k-ends_count : goal.returns-then-k-ends_count
+returns-then-k-ends_count c = end_past c.args.of.now c.args.conversation (omega arith)
 
 pub returns-then-code-eq0 : goal.returns-then-code-eq0
-returns-then-code-eq0 c = end_none c.args.words.now c.args.i c.requires c.args.conversation (omega arith) c.if-code-eq0.true
+returns-then-code-eq0 c =
+    ap (end_of (get_or c.args.of.now (32 + c.args.conversation) 0)) (sym c.if-code-eq0.true) ∙ end_there c.args.of.now c.args.conversation (omega arith)
 
 pub returns : goal.returns
-returns c =
-    end_some c.args.words.now c.args.i c.requires c.args.conversation (not (eqb (word c.args.words.now c.args.i (48 + c.args.conversation)) 1))
-    (omega arith) c.if-code-eq0.false refl
+returns c = end_some c.args.of.now c.args.conversation (omega arith) c.if-code-eq0.false

@@ -1,11 +1,6 @@
-use Rattle.std.proofs.Common.{◌+◌, min, arith}
-use Rattle.records.specs.Records.{word}
-use Rattle.records.proofs.TableLaws.{length_table}
-use Rattle.records.proofs.PushLaws.{number_kept}
+use Rattle.std.proofs.Common.{arith}
+use Rattle.records.proofs.RecordLaws.{variable_pushed}
 use Rattle.records.proofs.process.push_variable.Goals as goal
 
 pub returns : goal.returns
-returns c =
-    let l = length_table (λ k. word c.args.words.now c.args.i (16 + k)) 0 (min (word c.args.words.now c.args.i 4) 16) in
-    let f = c.requires.few in
-    number_kept c.args.words.now c.args.i c.requires.room c.min-count.result c.args.value (omega arith) (omega arith)
+returns c = variable_pushed c.args.process.now (omega arith) c.variables_count-k.result c.args.value c.variables_count-k.ensures.is (omega arith)

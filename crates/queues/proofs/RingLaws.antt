@@ -4,8 +4,8 @@ use mathlib.Core.Option.{some}
 use Rattle.model.specs.Program.{nth}
 use Rattle.records.specs.Tables.{table}
 use Rattle.records.proofs.TableLaws.{table_same, table_put, table_snoc, nth_table}
-use Rattle.queues.specs.declared.ring.Ring.{Ring}
-use Rattle.queues.specs.Rings.{slot, queue, taken, Within, Pushed, Gone}
+use Rattle.queues.specs.Slots.{slot, queue}
+use Rattle.queues.specs.Rings.{taken}
 
 pub slot_below : (n h k : ℕ) → h < n → k ≤ n → slot n h k < n
 slot_below n h k p q = grind arith
@@ -73,34 +73,17 @@ module _ (s : List ℕ) (h : ℕ) (below : h < length s) where
       (λ j x y ne. get_or-set_other s at (slot n h j) v 0 (slot_differs n h j (suc k) below (omega arith) (omega arith) (λ w. ne (omega arith))))
       (λ x. ap (λ m. get_or s' (slot n h m) 0) z ∙ (get_or-set_same s at v 0 (slot_below n h (suc k) below (omega arith)) ∙ e0))
 
-pub pushed : (s : List ℕ) (r : Ring) (at v : ℕ) → Within s r → r.count < length s → at ≡ slot (length s) r.head r.count → Pushed s (set s at v) r (record { head = r.head; count = r.count + 1 }) v
-pushed s r at v w room is =
-    let l = length-set s at v in
-    let p = w.head in
-    record {
-      long = l;
-      within = record { head = omega arith; count = omega arith };
-      items = ap (λ k. queue (set s k v) r.head (r.count + 1)) is ∙ queue_push s r.head w.head r.count v room;
-      count = refl;
-    }
+pub pushed : (s : List ℕ) (h c at v : ℕ) → h < length s → c < length s → at ≡ slot (length s) h c → queue (set s at v) h (c + 1) ≡ queue s h c ++ (v ∷ [])
+pushed s h c at v inside room is = ap (λ k. queue (set s k v) h (c + 1)) is ∙ queue_push s h inside c v room
 
-pub looked : (s : List ℕ) (r : Ring) (k at : ℕ) → k < r.count → at ≡ slot (length s) r.head k → nth (queue s r.head r.count) k ≡ some (get_or s at 0)
-looked s r k at there is =
+pub looked : (s : List ℕ) (h c k at : ℕ) → k < c → at ≡ slot (length s) h k → nth (queue s h c) k ≡ some (get_or s at 0)
+looked s h c k at there is =
     let y : 0 + k ≡ k = omega arith in
-    nth_table (λ j. get_or s (slot (length s) r.head j) 0) 0 r.count k there ∙ (ap (λ j. some (get_or s (slot (length s) r.head j) 0)) y ∙ ap (λ j. some (get_or s j 0)) (sym is))
+    nth_table (λ j. get_or s (slot (length s) h j) 0) 0 c k there ∙ (ap (λ j. some (get_or s (slot (length s) h j) 0)) y ∙ ap (λ j. some (get_or s j 0)) (sym is))
 
-pub took : (s : List ℕ) (r : Ring) (k at head : ℕ) → Within s r → k < r.count → at ≡ slot (length s) r.head k → head ≡ slot (length s) r.head 1 →
-    Gone s (set s at (get_or s r.head 0)) r k (record { head = head; count = r.count - 1 })
-took s r k at head w there is next =
-    let l = length-set s at (get_or s r.head 0) in
-    let p = w.head in
-    let q = w.count in
-    let b = slot_below (length s) r.head 1 p (omega arith) in
-    let z : r.count ≡ suc (r.count - 1) = omega arith in
-    record {
-      long = l;
-      within = record { head = omega arith; count = omega arith };
-      rest = ap (λ j. queue (set s j (get_or s r.head 0)) head (r.count - 1)) is ∙ (ap (λ j. queue (set s (slot (length s) r.head k) (get_or s r.head 0)) j (r.count - 1)) next ∙
-          (queue_take s r.head p (r.count - 1) k (omega arith) (omega arith) ∙ ap (λ c. taken (queue s r.head c) k) (sym z)));
-      count = omega arith;
-    }
+pub gone : (s : List ℕ) (h c k at head : ℕ) → h < length s → c ≤ length s → k < c → at ≡ slot (length s) h k → head ≡ slot (length s) h 1 →
+    queue (set s at (get_or s h 0)) head (c - 1) ≡ taken (queue s h c) k
+gone s h c k at head inside few there is next =
+    let z : c ≡ suc (c - 1) = omega arith in
+    ap (λ j. queue (set s j (get_or s h 0)) head (c - 1)) is ∙ (ap (λ j. queue (set s (slot (length s) h k) (get_or s h 0)) j (c - 1)) next ∙
+    (queue_take s h inside (c - 1) k (omega arith) (omega arith) ∙ ap (λ n. taken (queue s h n) k) (sym z)))

@@ -1,5 +1,5 @@
 -- Who waits at the ends of lines, in lent words: two words a line, one for each side, 0 or 1 + the process.
-use Rattle.std.specs.Prelude.{◌≡◌, ℕ, ◌+◌, ◌-◌, ◌*◌, ◌<◌, cond, List, length, Some, None, Option as Maybe, ◌==◌, ◌≢◌, slice_index}
+use Rattle.std.specs.Prelude.{◌≡◌, ℕ, ◌-◌, ◌<◌, cond, List, [], length, Some, None, Option as Maybe, ◌==◌, ◌≢◌, slice_index, slice_index_or}
 use Rattle.std.proofs.Math.Option.{Option, some, none}
 use Rattle.model.specs.Steps.{Endpoint}
 
@@ -8,11 +8,11 @@ abbrev pub who_of : ℕ → Option ℕ
 who_of n = cond (n == 0) none (some (n - 1))
 
 -- who waits at an end
-abbrev pub waiter_at : List ℕ → Endpoint → Option ℕ
-waiter_at s e = who_of (slice_index s (2 * e.line + e.side))
+abbrev pub waiter_at : List (List ℕ) → Endpoint → Option ℕ
+waiter_at s e = who_of (slice_index (slice_index_or s e.line []) e.side)
 
 -- who is noted at an end is now o; at all other ends it is as it was
-pub record Noted (s s' : List ℕ) (e : Endpoint) (o : Option ℕ) : Type 0 where
+pub record Noted (s s' : List (List ℕ)) (e : Endpoint) (o : Option ℕ) : Type 0 where
   pub long : length s' ≡ length s
   pub at : waiter_at s' e ≡ o
   pub others : (d : Endpoint) → d.side < 2 → (d ≢ e) → waiter_at s' d ≡ waiter_at s d

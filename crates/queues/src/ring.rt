@@ -1,21 +1,17 @@
 // The queue of processes that can go on, as a ring over lent words.
-ghost use Rattle.std.specs.Prelude.{◌≡◌, ◌+◌, ◌-◌, ◌*◌, ◌^◌, ◌<◌, ◌≤◌, length};
+ghost use Rattle.std.specs.Prelude.{◌≡◌, ◌<◌, ◌≤◌, length};
 ghost use Rattle.std.proofs.Math.Option.{some};
 ghost use Rattle.model.specs.Program.{nth};
-ghost use Rattle.queues.specs.Rings.{slot, queue, Within, Pushed, Gone, Took};
+ghost use Rattle.queues.specs.Slots.{slot};
 
-// The first slot, and how many are in the ring.
-#[derive(Clone, Copy)]
-pub struct Ring {
+// The slots, the first that is taken, and how many are.
+#[derive(Drop)]
+pub struct Queue<'a> {
+    pub slots: &'a mut [u32],
     pub head: usize,
     pub count: usize,
-}
-
-// The one that was taken out, and the ring without it.
-#[derive(Clone, Copy)]
-pub struct Taken {
-    pub who: u32,
-    pub ring: Ring,
+    pub ghost inside: { head < length slots.now },
+    pub ghost few: { count ≤ length slots.now },
 }
 
 // The slot so many places after the first.
@@ -30,53 +26,47 @@ fn slot_after(slots: usize, head: usize, places: usize) -> usize
     places - (slots - head)
 }
 
-// Puts one at the end of the queue.
-pub fn push(words: &mut [u32], ring: Ring, who: u32) -> Ring
-    requires within { Within words.old ring }
-    requires room { ring.count < length words.old }
-    ensures { Pushed words.old words.new ring result who }
-{
-    let at = slot_after(words.len(), ring.head, ring.count);
-    words[at] = who;
-    Ring {
-        head: ring.head,
-        count: ring.count + 1,
+impl Queue<'_> {
+    ghost use Rattle.queues.specs.Rings.{items, Pushed, Gone, Took};
+
+    // Puts one at the end of the queue.
+    pub fn push(&mut self, who: u32)
+        requires { self.old.count < length self.old.slots.now }
+        ensures { Pushed self.old self.new who }
+    {
+        let at = slot_after(self.slots.len(), self.head, self.count);
+        self.slots[at] = who;
+        self.count += 1;
     }
-}
 
-// The one at a place of the queue, the first for 0.
-pub fn look(words: &[u32], ring: Ring, place: usize) -> u32
-    requires within { Within words.now ring }
-    requires there { place < ring.count }
-    ensures { nth (queue words.now ring.head ring.count) place ≡ some result }
-{
-    let at = slot_after(words.len(), ring.head, place);
-    words[at]
-}
-
-// Takes out the one at a place of the queue, the first for 0; the first comes to stand in its place.
-pub fn leave(words: &mut [u32], ring: Ring, place: usize) -> Ring
-    requires within { Within words.old ring }
-    requires there { place < ring.count }
-    ensures { Gone words.old words.new ring place result }
-{
-    let slots = words.len();
-    let gap = slot_after(slots, ring.head, place);
-    words[gap] = words[ring.head];
-    let head = slot_after(slots, ring.head, 1);
-    Ring {
-        head,
-        count: ring.count - 1,
+    // The one at a place of the queue, the first for 0.
+    pub fn look(&self, place: usize) -> u32
+        requires { place < self.now.count }
+        ensures { nth (items self.now) place ≡ some result }
+    {
+        let at = slot_after(self.slots.len(), self.head, place);
+        self.slots[at]
     }
-}
 
-// Takes out the one at a place of the queue, the first for 0.
-pub fn take(words: &mut [u32], ring: Ring, place: usize) -> Taken
-    requires within { Within words.old ring }
-    requires there { place < ring.count }
-    ensures { Took words.old words.new ring place result }
-{
-    let who = look(words, ring, place);
-    let ring = leave(words, ring, place);
-    Taken { who, ring }
+    // Takes out the one at a place of the queue, the first for 0; the first comes to stand in its place.
+    pub fn leave(&mut self, place: usize)
+        requires { place < self.old.count }
+        ensures { Gone self.old self.new place }
+    {
+        let gap = slot_after(self.slots.len(), self.head, place);
+        let next = slot_after(self.slots.len(), self.head, 1);
+        self.slots[gap] = self.slots[self.head];
+        self.head = next;
+        self.count -= 1;
+    }
+
+    // Takes out the one at a place of the queue, the first for 0, and answers which it is.
+    pub fn take(&mut self, place: usize) -> u32
+        requires { place < self.old.count }
+        ensures { Took self.old self.new place result }
+    {
+        let who = self.look(place);
+        self.leave(place);
+        who
+    }
 }

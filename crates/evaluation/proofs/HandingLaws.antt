@@ -1,5 +1,6 @@
 -- What the loops over handed numbers and conversations keep.
-use Rattle.std.proofs.Common.{◌≡◌, ℕ, zero, suc, ◌+◌, ◌<◌, ◌≤◌, max, ◌≢◌, List, [], ◌∷◌, ◌++◌, length, get_or, drop, set, None, Option as Maybe, sym, refl, ap, ◌∙◌, append_assoc, append-nil, add-one, arith, length-append, length-set, get_or-set_other, get_or-set_same}
+use Rattle.std.proofs.Common.{◌≡◌, ℕ, zero, suc, ◌+◌, ◌<◌, ◌≤◌, max, ◌≢◌, List, [], ◌∷◌, ◌++◌, length, get_or, drop, set, None, Option as Maybe, sym, refl, ap, ◌∙◌, append_assoc, append-nil, add-one, arith, take, take-suc, take_all, ◌-◌, length-append, length-take, length-set, get_or-set_other, get_or-set_same}
+use Rattle.std.proofs.lemmas.List.{get_or_append_left, get_or-append_right}
 use mathlib.Core.Option.{Option}
 use Rattle.model.specs.Program.{Expression, values}
 use Rattle.model.specs.Steps.{Endpoint, pad, end, ends_of}
@@ -10,7 +11,7 @@ use Rattle.records.specs.Records.{viewed}
 use Rattle.records.proofs.TableLaws.{table_same, table_snoc}
 use Rattle.evaluation.specs.declared.expressions.Valued.{Valued}
 use Rattle.evaluation.specs.Values.{Evaluates}
-use Rattle.evaluation.specs.Handing.{NumbersAre, Numbered, listed}
+use Rattle.evaluation.specs.Handing.{NumbersAre, Numbered}
 
 -- padding a table whose function is 0 behind it
 pub pad_table : (f : ℕ → ℕ) (b n m : ℕ) → ((j : ℕ) → b + n ≤ j → f j ≡ 0) → pad m (table f b n) ≡ table f b (max n m)
@@ -29,7 +30,34 @@ pad_table f b (suc n) (suc m) h =
     let t1 = ap (table f b) z in
     cc
 
--- k of the numbers es have been put into vals, and the rest stands from place here on
+-- a list of zeros
+abbrev pub sixteen : List ℕ
+sixteen = 0 ∷ 0 ∷ 0 ∷ 0 ∷ 0 ∷ 0 ∷ 0 ∷ 0 ∷ 0 ∷ 0 ∷ 0 ∷ 0 ∷ 0 ∷ 0 ∷ 0 ∷ 0 ∷ []
+
+-- a list of zeros has no other element
+pub data Zeros : List ℕ → Type 0 where
+  none : Zeros []
+  more : {l : List ℕ} → Zeros l → Zeros (0 ∷ l)
+
+pub get_or_zeros : (l : List ℕ) → Zeros l → (j : ℕ) → get_or l j 0 ≡ 0
+get_or_zeros l none j = refl
+get_or_zeros l (more z) zero = refl
+get_or_zeros l (more z) (suc j) = get_or_zeros _ z j
+
+zeros_taken : (n : ℕ) (l : List ℕ) → Zeros l → Zeros (take n l)
+zeros_taken zero l z = none
+zeros_taken (suc n) l none = none
+zeros_taken (suc n) l (more z) = more (zeros_taken n _ z)
+
+zeros_dropped : (n : ℕ) (l : List ℕ) → Zeros l → Zeros (drop n l)
+zeros_dropped zero l z = z
+zeros_dropped (suc n) l none = none
+zeros_dropped (suc n) l (more z) = zeros_dropped n _ z
+
+zeros : Zeros sixteen
+zeros = more (more (more (more (more (more (more (more (more (more (more (more (more (more (more (more none)))))))))))))))
+
+-- k of the numbers es have been put into vals, which has room for n, and the rest stands from place here on
 pub record Rest (s vs : List ℕ) (at d n : ℕ) (es : List Expression) (x : List ℕ) (k : ℕ) (vals : List ℕ) (here : ℕ) : Type 0 where
   pub them : List Expression
   pub many : k + length them ≡ n
@@ -39,23 +67,23 @@ pub record Rest (s vs : List ℕ) (at d n : ℕ) (es : List Expression) (x : Lis
   pub ends : here + length (row_es them) ≡ at + length (row_es es)
 
 pub record Going (s vs : List ℕ) (at d n k : ℕ) (vals : List ℕ) (here : ℕ) : Type 0 where
-  pub long : length vals ≡ 16
+  pub long : length vals ≡ n
   pub zeros : (j : ℕ) → k ≤ j → get_or vals j 0 ≡ 0
   pub within : at ≤ length s → here ≤ length s
   pub rest : (es : List Expression) (x : List ℕ) → length es ≡ n → drop at s ≡ row_es es ++ x → deep_es es ≤ d → Rest s vs at d n es x k vals here
 
 module _ (s vs : List ℕ) (at d n : ℕ) where
-  pub going_none : (vals : List ℕ) → length vals ≡ 16 → ((j : ℕ) → get_or vals j 0 ≡ 0) → Going s vs at d n 0 vals at
-  going_none vals l z = record {
-    long = l;
-    zeros = λ j p. z j;
+  pub going_none : n ≤ 16 → Going s vs at d n 0 (take n sixteen) at
+  going_none few = record {
+    long = length-take n sixteen ∙ (omega arith);
+    zeros = λ j p. get_or_zeros (take n sixteen) (zeros_taken n sixteen zeros) j;
     within = λ h. h;
     rest = λ es x m r p. record { them = es; many = omega arith; rows = r; deep = p; made = refl; ends = refl };
   }
 
-  rest_more : (es : List Expression) (x : List ℕ) (k here : ℕ) (vals : List ℕ) (v : Valued) → length vals ≡ 16 → k < n → n ≤ 16 → Evaluates s vs here d v →
+  rest_more : (es : List Expression) (x : List ℕ) (k here : ℕ) (vals : List ℕ) (v : Valued) → length vals ≡ n → k < n → Evaluates s vs here d v →
       Rest s vs at d n es x k vals here → Rest s vs at d n es x (k + 1) (set vals k v.value) v.next
-  rest_more es x k here vals v l lt few ev g = go g.them g.many g.rows g.deep g.made g.ends
+  rest_more es x k here vals v l lt ev g = go g.them g.many g.rows g.deep g.made g.ends
     where
       go : (fs : List Expression) → k + length fs ≡ n → drop here s ≡ row_es fs ++ x → deep_es fs ≤ d → values vs es ≡ table (λ j. get_or vals j 0) 0 k ++ values vs fs →
           here + length (row_es fs) ≡ at + length (row_es es) → Rest s vs at d n es x (k + 1) (set vals k v.value) v.next
@@ -82,25 +110,36 @@ module _ (s vs : List ℕ) (at d n : ℕ) where
             ends = omega arith;
           }
 
-  pub going_more : (k here : ℕ) (vals : List ℕ) (v : Valued) → k < n → n ≤ 16 → Evaluates s vs here d v → (here ≤ length s → v.next ≤ length s) → Going s vs at d n k vals here → Going s vs at d n (k + 1) (set vals k v.value) v.next
-  going_more k here vals v lt few ev wi g = record {
+  pub going_more : (k here : ℕ) (vals : List ℕ) (v : Valued) → k < n → Evaluates s vs here d v → (here ≤ length s → v.next ≤ length s) → Going s vs at d n k vals here → Going s vs at d n (k + 1) (set vals k v.value) v.next
+  going_more k here vals v lt ev wi g = record {
     within = λ h. wi (g.within h);
     long = length-set vals k v.value ∙ g.long;
     zeros = λ j p. let ne : j ≢ k = omega arith in get_or-set_other vals k j v.value 0 ne ∙ g.zeros j (omega arith);
-    rest = λ es x m r p. rest_more es x k here vals v g.long lt few ev (g.rest es x m r p);
+    rest = λ es x m r p. rest_more es x k here vals v g.long lt ev (g.rest es x m r p);
   }
 
-  pub going_all : (k here : ℕ) (vals : List ℕ) → k ≡ n → Going s vs at d n k vals here → Numbered s vs at d n (record { values = vals; next = here })
+  -- where all are made, zeros stand behind them
+  pub going_all : (k here : ℕ) (vals : List ℕ) → k ≡ n → Going s vs at d n k vals here → Numbered s vs at d n (record { values = vals ++ drop n sixteen; next = here })
   going_all k here vals is g es x m r p = go (g.rest es x m r p).them (g.rest es x m r p).many (g.rest es x m r p).rows (g.rest es x m r p).made (g.rest es x m r p).ends
     where
+      all : List ℕ
+      all = vals ++ drop n sixteen
+
+      beyond : (j : ℕ) → n ≤ j → get_or all j 0 ≡ 0
+      beyond j q =
+          let l = g.long in
+          get_or-append_right vals (drop n sixteen) n j 0 l q ∙ get_or_zeros (drop n sixteen) (zeros_dropped n sixteen zeros) (j - n)
+
       go : (fs : List Expression) → k + length fs ≡ n → drop here s ≡ row_es fs ++ x → values vs es ≡ table (λ j. get_or vals j 0) 0 k ++ values vs fs →
-          here + length (row_es fs) ≡ at + length (row_es es) → NumbersAre s vs at es x (record { values = vals; next = here })
+          here + length (row_es fs) ≡ at + length (row_es es) → NumbersAre s vs at es x (record { values = vals ++ drop n sixteen; next = here })
       go (f ∷ fs) a r b o = absurd (omega arith)
       go [] a r b o =
+          let l = g.long in
           let z : k ≡ length es = omega arith in
           let t : table (λ j. get_or vals j 0) 0 k ++ [] ≡ table (λ j. get_or vals j 0) 0 (length es) = append-nil (table (λ j. get_or vals j 0) 0 k) ∙ ap (table (λ j. get_or vals j 0) 0) z in
+          let u : table (λ j. get_or vals j 0) 0 (length es) ≡ table (λ j. get_or all j 0) 0 (length es) = table_same (λ j. get_or all j 0) (λ j. get_or vals j 0) 0 (length es) (λ j y w. sym (get_or_append_left vals (drop n sixteen) 0 j (omega arith))) in
           record {
-            padded = λ q. ap (pad q) (b ∙ t) ∙ pad_table (λ j. get_or vals j 0) 0 (length es) q (λ j y. g.zeros j (omega arith));
+            padded = λ q. ap (pad q) (b ∙ (t ∙ u)) ∙ pad_table (λ j. get_or all j 0) 0 (length es) q (λ j y. beyond j (omega arith));
             rest = r;
             ends = omega arith;
           }
@@ -110,41 +149,27 @@ ends_of_append es [] ys = refl
 ends_of_append es (x ∷ xs) ys = ap (λ l. end es x ∷ l) (ends_of_append es xs ys)
 
 -- k of the conversations have been gathered
-pub record Gathered (s : List ℕ) (es : List (Option Endpoint)) (at k : ℕ) (got : List (Maybe End)) : Type 0 where
+pub record Gathered (cs : List ℕ) (es : List (Option Endpoint)) (k : ℕ) (got : List (Maybe End)) : Type 0 where
   pub long : length got ≡ 16
-  pub are : table (λ j. viewed (get_or got j None)) 0 k ≡ ends_of es (listed s at k)
+  pub are : table (λ j. viewed (get_or got j None)) 0 k ≡ ends_of es (take k cs)
 
-pub gathered_more : (s : List ℕ) (es : List (Option Endpoint)) (at k : ℕ) (got : List (Maybe End)) (o : Maybe End) → k < 16 → viewed o ≡ end es (get_or s (at + k) 0) →
-    Gathered s es at k got → Gathered s es at (k + 1) (set got k o)
-gathered_more s es at k got o lt is g =
+pub gathered_more : (cs : List ℕ) (es : List (Option Endpoint)) (k : ℕ) (got : List (Maybe End)) (o : Maybe End) → k < length cs → k < 16 → viewed o ≡ end es (get_or cs k 0) →
+    Gathered cs es k got → Gathered cs es (k + 1) (set got k o)
+gathered_more cs es k got o there lt is g =
     let G : ℕ → Option Endpoint = λ j. viewed (get_or (set got k o) j None) in
     let F : ℕ → Option Endpoint = λ j. viewed (get_or got j None) in
-    let W : ℕ → ℕ = λ j. get_or s (at + j) 0 in
     let l = g.long in
     let z : 0 + k ≡ k = omega arith in
-    let g0 : G (0 + k) ≡ end es (W k) = ap G z ∙ (ap viewed (get_or-set_same got k o None (omega arith)) ∙ is) in
-    let w0 : W (0 + k) ≡ W k = ap W z in
+    let g0 : G (0 + k) ≡ end es (get_or cs k 0) = ap G z ∙ (ap viewed (get_or-set_same got k o None (omega arith)) ∙ is) in
     let t0 : table G 0 (k + 1) ≡ table G 0 (suc k) = ap (table G 0) (add-one k) in
     let t1 = table_snoc G 0 k in
     let t2 : table G 0 k ≡ table F 0 k = table_same F G 0 k (λ j y w. let ne : j ≢ k = omega arith in ap viewed (get_or-set_other got k j o None ne)) in
-    let u0 : table W 0 (k + 1) ≡ table W 0 (suc k) = ap (table W 0) (add-one k) in
-    let u1 = table_snoc W 0 k in
-    let u2 : table W 0 (k + 1) ≡ table W 0 k ++ (W k ∷ []) = cc in
+    let u : take (k + 1) cs ≡ take k cs ++ (get_or cs k 0 ∷ []) = ap (λ n. take n cs) (add-one k) ∙ take-suc cs k 0 there in
     let a = g.are in
     record {
       long = length-set got k o ∙ l;
-      are = t0 ∙ (t1 ∙ (ap (λ y. table G 0 k ++ (y ∷ [])) g0 ∙ (ap (λ y. y ++ (end es (W k) ∷ [])) (t2 ∙ a) ∙ (sym (ends_of_append es (table W 0 k) (W k ∷ [])) ∙ ap (ends_of es) (sym u2)))));
+      are = t0 ∙ (t1 ∙ (ap (λ y. table G 0 k ++ (y ∷ [])) g0 ∙ (ap (λ y. y ++ (end es (get_or cs k 0) ∷ [])) (t2 ∙ a) ∙ (sym (ends_of_append es (take k cs) (get_or cs k 0 ∷ [])) ∙ ap (ends_of es) (sym u)))));
     }
 
-pub gathered_all : (s : List ℕ) (es : List (Option Endpoint)) (at k n : ℕ) (got : List (Maybe End)) → k ≡ n → Gathered s es at k got → table (λ j. viewed (get_or got j None)) 0 n ≡ ends_of es (listed s at n)
-gathered_all s es at k n got is g = ap (table (λ j. viewed (get_or got j None)) 0) (sym is) ∙ (g.are ∙ ap (λ m. ends_of es (listed s at m)) is)
-
--- a list of zeros has no other element
-pub data Zeros : List ℕ → Type 0 where
-  none : Zeros []
-  more : {l : List ℕ} → Zeros l → Zeros (0 ∷ l)
-
-pub get_or_zeros : (l : List ℕ) → Zeros l → (j : ℕ) → get_or l j 0 ≡ 0
-get_or_zeros l none j = refl
-get_or_zeros l (more z) zero = refl
-get_or_zeros l (more z) (suc j) = get_or_zeros _ z j
+pub gathered_all : (cs : List ℕ) (es : List (Option Endpoint)) (k : ℕ) (got : List (Maybe End)) → k ≡ length cs → Gathered cs es k got → table (λ j. viewed (get_or got j None)) 0 (length cs) ≡ ends_of es cs
+gathered_all cs es k got is g = ap (table (λ j. viewed (get_or got j None)) 0) (sym is) ∙ (g.are ∙ ap (ends_of es) (take_all k cs (omega arith)))

@@ -1,11 +1,11 @@
 // What a start or become hands on: numbers and conversations, at most sixteen of each.
-ghost use Rattle.std.specs.Prelude.{◌≡◌, ◌+◌, ◌*◌, ◌≤◌, length};
+ghost use Rattle.std.specs.Prelude.{◌≡◌, ◌≤◌, length};
 ghost use Rattle.model.specs.Steps.{ends_of};
-ghost use Rattle.records.specs.Records.{record_at};
-ghost use Rattle.evaluation.specs.Handing.{Numbered, listed, ends_in};
+ghost use Rattle.records.specs.Records.{record_of};
+ghost use Rattle.evaluation.specs.Handing.{Numbered, ends_in};
 
 use crate::expressions::evaluate;
-use records::process::{End, end_at};
+use records::process::{End, Record, end_at};
 
 // Numbers handed on, with 0 behind them, and the place behind their expressions.
 #[derive(Clone, Copy)]
@@ -14,7 +14,7 @@ pub struct Numbers {
     pub next: usize,
 }
 
-// Conversations handed on, as ends of lines.
+// Conversations handed on, as ends of lines, with none behind them.
 #[derive(Clone, Copy)]
 pub struct Ends {
     pub ends: [Option<End>; 16],
@@ -26,28 +26,24 @@ pub fn numbers_at(p: &[u32], at: usize, count: u32, depth: u32, vars: &[u32]) ->
     ensures numbers { Numbered p.now vars.now at depth count result }
     ensures within { at ≤ length p.now → result.next ≤ length p.now }
 {
-    let mut numbers = Numbers {
-        values: [0; 16],
-        next: at,
-    };
-    'each: for k in 0..count {
-        let v = evaluate(p, numbers.next, depth, vars);
-        numbers.values[k as usize] = v.value;
-        numbers.next = v.next;
+    let mut values = [0; 16];
+    let mut next = at;
+    for value in &mut values[..count as usize] {
+        let valued = evaluate(p, next, depth, vars);
+        *value = valued.value;
+        next = valued.next;
     }
-    numbers
+    Numbers { values, next }
 }
 
-// The ends that so many conversations of a process are, listed from a place on.
-pub fn conversations_at(p: &[u32], at: usize, count: usize, words: &[u32], i: usize) -> Ends
-    requires few { count ≤ 16 }
-    requires there { at + count ≤ length p.now }
-    requires room { 64 * i + 64 ≤ length words.now }
-    ensures { ends_in result count ≡ ends_of (record_at words.now i).ends (listed p.now at count) }
+// The ends that the conversations of a process are which are listed.
+pub fn conversations_at(listed: &[u32], process: &Record) -> Ends
+    requires { length listed.now ≤ 16 }
+    ensures { ends_in result (length listed.now) ≡ ends_of (record_of process.now).ends listed.now }
 {
-    let mut handed = Ends { ends: [None; 16] };
-    'each: for k in 0..count {
-        handed.ends[k] = end_at(words, i, p[at + k]);
+    let mut ends = [None; 16];
+    for (k, conversation) in listed.iter().enumerate() {
+        ends[k] = end_at(process, *conversation);
     }
-    handed
+    Ends { ends }
 }

@@ -1,41 +1,35 @@
 // Conversations and numbers handed on are given to one process and taken from another.
-ghost use Rattle.std.specs.Prelude.{◌≡◌, ◌+◌, ◌*◌, ◌≤◌, length};
-ghost use Rattle.model.specs.Steps.{without};
-ghost use Rattle.records.specs.Records.{record_at, Kept};
-ghost use Rattle.evaluation.specs.Handing.{listed, ends_in, numbers_in, with_ends, with_numbers, taken_from};
+ghost use Rattle.std.specs.Prelude.{◌≡◌, ◌+◌, ◌≤◌, length, map};
+ghost use Rattle.records.specs.Records.{record_of, viewed};
+ghost use Rattle.evaluation.specs.Handing.{with_ends, with_numbers, taken_from};
 
-use crate::handed::{Ends, Numbers};
-use records::process::{clear_end, push_end, push_variable};
+use records::process::{End, Record, clear_end, push_end, push_variable};
 
-// Gives a process the first so many of some ends.
-pub fn push_ends(words: &mut [u32], i: usize, ends: &Ends, count: usize)
-    requires room { 64 * i + 64 ≤ length words.old }
-    requires few { length (record_at words.old i).ends + count ≤ 16 }
-    ensures { Kept words.old words.new i (with_ends (record_at words.old i) (ends_in ends.now count)) }
+// Gives a process some ends.
+pub fn push_ends(process: &mut Record, ends: &[Option<End>])
+    requires { length (record_of process.old).ends + length ends.now ≤ 16 }
+    ensures { record_of process.new ≡ with_ends (record_of process.old) (map viewed ends.now) }
 {
-    'each: for k in 0..count {
-        push_end(words, i, ends.ends[k]);
+    for end in ends {
+        push_end(process, *end);
     }
 }
 
-// Gives a process the first so many of some numbers as variables.
-pub fn push_numbers(words: &mut [u32], i: usize, numbers: &Numbers, count: usize)
-    requires room { 64 * i + 64 ≤ length words.old }
-    requires few { length (record_at words.old i).vars + count ≤ 16 }
-    ensures { Kept words.old words.new i (with_numbers (record_at words.old i) (numbers_in numbers.now count)) }
+// Gives a process some numbers as variables.
+pub fn push_numbers(process: &mut Record, numbers: &[u32])
+    requires { length (record_of process.old).vars + length numbers.now ≤ 16 }
+    ensures { record_of process.new ≡ with_numbers (record_of process.old) numbers.now }
 {
-    'each: for k in 0..count {
-        push_variable(words, i, numbers.values[k]);
+    for number in numbers {
+        push_variable(process, *number);
     }
 }
 
-// Takes the conversations that are listed from a place on from a process.
-pub fn clear_ends(p: &[u32], at: usize, count: usize, words: &mut [u32], i: usize)
-    requires there { at + count ≤ length p.now }
-    requires room { 64 * i + 64 ≤ length words.old }
-    ensures { Kept words.old words.new i (taken_from (record_at words.old i) (listed p.now at count)) }
+// Takes the conversations that are listed from a process.
+pub fn clear_ends(process: &mut Record, listed: &[u32])
+    ensures { record_of process.new ≡ taken_from (record_of process.old) listed.now }
 {
-    'each: for k in 0..count {
-        clear_end(words, i, p[at + k]);
+    for conversation in listed {
+        clear_end(process, *conversation);
     }
 }

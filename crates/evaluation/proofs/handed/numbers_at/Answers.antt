@@ -1,19 +1,19 @@
-use Rattle.std.proofs.Common.{refl, arith}
-use Rattle.evaluation.proofs.HandingLaws.{going_none, going_more, going_all, get_or_zeros, none, more}
+use Rattle.std.proofs.Common.{length-take, arith}
+use Rattle.evaluation.proofs.HandingLaws.{going_none, going_more, going_all, sixteen}
 use Rattle.evaluation.proofs.handed.numbers_at.Goals as goal
 
-pub each-init : goal.each-init
-each-init c =
-    going_none c.args.p.now c.args.vars.now c.args.at c.args.depth c.args.count _ refl
-    (get_or_zeros _ (more (more (more (more (more (more (more (more (more (more (more (more (more (more (more (more none)))))))))))))))))
+pub loop-value-init : goal.loop-value-init
+loop-value-init c = going_none c.args.p.now c.args.vars.now c.args.at c.args.depth c.args.count c.requires
 
-pub each-preserved : goal.each-preserved
-each-preserved c =
-    going_more c.args.p.now c.args.vars.now c.args.at c.args.depth c.args.count c.each.k c.each.numbers.next c.each.numbers.values c.evaluate-v.result
-    c.each-test.true c.requires c.evaluate-v.ensures.value c.evaluate-v.ensures.within c.each.invariant
+pub loop-value-preserved : goal.loop-value-preserved
+loop-value-preserved c =
+    going_more c.args.p.now c.args.vars.now c.args.at c.args.depth c.args.count c.loop-value.value-index c.loop-value.next c.loop-value.value-items c.evaluate-valued.result
+    (let l = length-take c.args.count sixteen in let t = c.loop-value-test.true in omega arith) c.evaluate-valued.ensures.value c.evaluate-valued.ensures.within c.loop-value.invariant
 
-pub returns : goal.returns
-returns c = record {
-  numbers = going_all c.args.p.now c.args.vars.now c.args.at c.args.depth c.args.count c.each.k c.each.numbers.next c.each.numbers.values (omega arith) c.each.invariant;
-  within = c.each.invariant.within;
-}
+pub returns-clause-numbers : goal.returns-clause-numbers
+returns-clause-numbers c =
+    going_all c.args.p.now c.args.vars.now c.args.at c.args.depth c.args.count c.loop-value.value-index c.loop-value.next c.loop-value.value-items
+    (let l = length-take c.args.count sixteen in let t = c.loop-value-test.false in let b = c.loop-value.auto.value-index-end in omega arith) c.loop-value.invariant
+
+pub returns-clause-within : goal.returns-clause-within
+returns-clause-within c = c.loop-value.invariant.within

@@ -1,17 +1,20 @@
-use Rattle.std.proofs.Common.{get_or, None, arith}
-use Rattle.records.specs.Records.{viewed}
+use Rattle.std.proofs.Common.{◌<◌, length, get_or, take, map, None, ap, ◌∙◌, subst, sym, take_all, arith}
+use Rattle.records.specs.Records.{record_of, viewed, with_end}
+use Rattle.evaluation.specs.Handing.{with_ends}
 use Rattle.evaluation.proofs.GivingLaws.{ends_none, ends_more, ends_few}
 use Rattle.evaluation.proofs.handing.push_ends.Goals as goal
 
-pub each-init : goal.each-init
-each-init c = ends_none c.args.words.now c.args.i (λ k. viewed (get_or c.args.ends.now.ends k None))
+pub loop-end-init : goal.loop-end-init
+loop-end-init c = ends_none (record_of c.args.process.now)
 
 pub push_end-requires : goal.push_end-requires
-push_end-requires c = record {
-  room = omega arith;
-  few = ends_few c.args.words.now c.each.words c.each.words c.args.i c.each.k (λ k. viewed (get_or c.args.ends.now.ends k None)) c.args.count c.each-test.true c.requires.few c.each.invariant;
-}
+push_end-requires c =
+    subst (λ r. length r.ends < 16) (sym c.loop-end.invariant) (ends_few (record_of c.args.process.now) c.args.ends.now c.loop-end.end-index c.loop-end-test.true c.requires)
 
-pub each-preserved : goal.each-preserved
-each-preserved c =
-    ends_more c.args.words.now c.each.words c.push_end.new.words c.args.i c.each.k (λ k. viewed (get_or c.args.ends.now.ends k None)) c.each.invariant c.push_end.ensures
+pub loop-end-preserved : goal.loop-end-preserved
+loop-end-preserved c =
+    c.push_end.ensures ∙ (ap (λ r. with_end r (viewed (get_or c.args.ends.now c.loop-end.end-index None))) c.loop-end.invariant ∙
+    ends_more (record_of c.args.process.now) c.args.ends.now c.loop-end.end-index c.loop-end-test.true)
+
+pub returns : goal.returns
+returns c = c.loop-end.invariant ∙ ap (λ es. with_ends (record_of c.args.process.now) (map viewed es)) (take_all c.loop-end.end-index c.args.ends.now (omega arith))

@@ -1,6 +1,7 @@
-use Rattle.records.specs.Records.{record_at, Kept}
-use Rattle.evaluation.specs.Handing.{ends_in, with_ends}
+use Rattle.std.proofs.Common.{◌≡◌, take, map}
+use Rattle.records.specs.Records.{record_of, viewed}
+use Rattle.evaluation.specs.Handing.{with_ends}
 use Rattle.evaluation.proofs.handing.push_ends.Given as goal
 
-abbrev pub invariant-each : goal.invariant-each
-invariant-each l = Kept l.initial.words l.words l.i (with_ends (record_at l.initial.words l.i) (ends_in l.ends l.k))
+abbrev pub invariant-loop-end : goal.invariant-loop-end
+invariant-loop-end l = record_of l.process ≡ with_ends (record_of l.initial.process) (map viewed (take l.end-index l.ends))

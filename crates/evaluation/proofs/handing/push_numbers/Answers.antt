@@ -1,16 +1,20 @@
-use Rattle.std.proofs.Common.{get_or, arith}
+use Rattle.std.proofs.Common.{◌<◌, length, get_or, take, ap, ◌∙◌, subst, sym, take_all, arith}
+use Rattle.records.specs.Records.{record_of, with_number}
+use Rattle.evaluation.specs.Handing.{with_numbers}
 use Rattle.evaluation.proofs.GivingLaws.{numbers_none, numbers_more, numbers_few}
 use Rattle.evaluation.proofs.handing.push_numbers.Goals as goal
 
-pub each-init : goal.each-init
-each-init c = numbers_none c.args.words.now c.args.i (λ k. get_or c.args.numbers.now.values k 0)
+pub loop-number-init : goal.loop-number-init
+loop-number-init c = numbers_none (record_of c.args.process.now)
 
 pub push_variable-requires : goal.push_variable-requires
-push_variable-requires c = record {
-  room = omega arith;
-  few = numbers_few c.args.words.now c.each.words c.each.words c.args.i c.each.k (λ k. get_or c.args.numbers.now.values k 0) c.args.count c.each-test.true c.requires.few c.each.invariant;
-}
+push_variable-requires c =
+    subst (λ r. length r.vars < 16) (sym c.loop-number.invariant) (numbers_few (record_of c.args.process.now) c.args.numbers.now c.loop-number.number-index c.loop-number-test.true c.requires)
 
-pub each-preserved : goal.each-preserved
-each-preserved c =
-    numbers_more c.args.words.now c.each.words c.push_variable.new.words c.args.i c.each.k (λ k. get_or c.args.numbers.now.values k 0) c.each.invariant c.push_variable.ensures
+pub loop-number-preserved : goal.loop-number-preserved
+loop-number-preserved c =
+    c.push_variable.ensures ∙ (ap (λ r. with_number r (get_or c.args.numbers.now c.loop-number.number-index 0)) c.loop-number.invariant ∙
+    numbers_more (record_of c.args.process.now) c.args.numbers.now c.loop-number.number-index c.loop-number-test.true)
+
+pub returns : goal.returns
+returns c = c.loop-number.invariant ∙ ap (with_numbers (record_of c.args.process.now)) (take_all c.loop-number.number-index c.args.numbers.now (omega arith))

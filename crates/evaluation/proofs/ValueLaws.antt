@@ -18,15 +18,10 @@ value_operation vs Difference a b = refl
 value_operation vs Product a b = refl
 value_operation vs Less a b = refl
 
-pub at_or_0_there : (vs : List ℕ) (x : ℕ) → x < length vs → get_or vs x 0 ≡ at_or_0 vs x
-at_or_0_there [] x h = absurd (omega arith)
-at_or_0_there (v ∷ vs) zero h = refl
-at_or_0_there (v ∷ vs) (suc x) h = at_or_0_there vs x (omega arith)
-
-pub at_or_0_past : (vs : List ℕ) (x : ℕ) → length vs ≤ x → 0 ≡ at_or_0 vs x
-at_or_0_past [] x h = refl
-at_or_0_past (v ∷ vs) zero h = absurd (omega arith)
-at_or_0_past (v ∷ vs) (suc x) h = at_or_0_past vs x (omega arith)
+pub at_or_0_is : (vs : List ℕ) (x : ℕ) → get_or vs x 0 ≡ at_or_0 vs x
+at_or_0_is [] x = refl
+at_or_0_is (v ∷ vs) zero = refl
+at_or_0_is (v ∷ vs) (suc x) = at_or_0_is vs x
 
 module _ (s vs : List ℕ) (i d : ℕ) where
   pub nothing_deep : (r : Valued) → d ≡ 0 → Evaluates s vs i d r
@@ -68,14 +63,3 @@ module _ (s vs : List ℕ) (i d : ℕ) where
           let v2 = second.value in
           let t = value_operation vs o l r in
           record { value = cc; rest = second.rest; ends = omega arith }
-
--- the place behind a term is within the words
-module _ (s : List ℕ) (i : ℕ) where
-  pub number_within : (n : ℕ) (k : Term) → TermWords s i k → k ≡ Number n → i ≤ length s → i + 2 ≤ length s
-  number_within n k w kind h = let w' = subst (TermWords s i) kind w in omega arith
-
-  pub variable_within : (n : ℕ) (k : Term) → TermWords s i k → k ≡ Variable n → i ≤ length s → i + 2 ≤ length s
-  variable_within n k w kind h = let w' = subst (TermWords s i) kind w in omega arith
-
-  pub pair_within : (f : ℕ) (o : Operator) (k : Term) → TermWords s i k → k ≡ Pair o f → f ≤ length s
-  pair_within f o k w kind = let w' = subst (TermWords s i) kind w in omega arith

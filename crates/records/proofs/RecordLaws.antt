@@ -159,3 +159,16 @@ kept_set s i w r there is = record {
   at = ap record_of (get_or-set_same s i w [] there) ∙ is;
   others = λ j ne. ap record_of (get_or-set_other s i j w [] ne);
 }
+
+pub kept_none : (s : List (List ℕ)) (i : ℕ) → Kept s s i (record_at s i)
+kept_none s i = record { long = refl; at = refl; others = λ j ne. refl }
+
+pub kept_then : {s t u : List (List ℕ)} {i : ℕ} {r q : Record} → Kept s t i r → Kept t u i q → Kept s u i q
+kept_then a b = record { long = b.long ∙ a.long; at = b.at; others = λ j ne. b.others j ne ∙ a.others j ne }
+
+pub kept_as : {s t : List (List ℕ)} {i : ℕ} {r q : Record} → r ≡ q → Kept s t i r → Kept s t i q
+kept_as e a = record { long = a.long; at = a.at ∙ e; others = a.others }
+
+-- and there are as many records as before
+pub kept_room : {s t : List (List ℕ)} {i : ℕ} {r : Record} → Kept s t i r → (j : ℕ) → j < length s → j < length t
+kept_room k j lt = let e = k.long in omega arith

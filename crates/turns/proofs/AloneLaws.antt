@@ -18,8 +18,8 @@ pub only_first_none : (i : ℕ) → only_first i [] ≡ []
 only_first_none zero = refl
 only_first_none (suc i) = refl
 
-module _ (s m procs lines : List ℕ) (count i : ℕ) (g : Program) (a : Configuration) (q : List ℕ) (b : Before s m g procs lines count i a q) (w : Worker) (n : nth a.workers i ≡ some w) (r : w.state ≡ running)
-    (procs' : List ℕ) (t : Record) (k : Kept procs procs' i t) (w' : Worker) (h : Holds s m t w') (below : Below a.next w'.ends) where
+module _ (s m : List ℕ) (procs lines : List (List ℕ)) (count i : ℕ) (g : Program) (a : Configuration) (q : List ℕ) (b : Before s m g procs lines count i a q) (w : Worker) (n : nth a.workers i ≡ some w) (r : w.state ≡ running)
+    (procs' : List (List ℕ)) (t : Record) (k : Kept procs procs' i t) (w' : Worker) (h : Holds s m t w') (below : Below a.next w'.ends) where
   here_below : i < count
   here_below = let u = nth_below a.workers i n in let v = b.holding.many in omega arith
 

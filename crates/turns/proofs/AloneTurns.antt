@@ -9,7 +9,6 @@ use Rattle.model.specs.Rows.{row_e, row_a, deep}
 use Rattle.records.specs.Records.{record_at, Kept, moved, assigned, ended}
 use Rattle.evaluation.specs.declared.expressions.Valued.{Valued}
 use Rattle.evaluation.specs.Values.{Evaluates}
-use Rattle.evaluation.proofs.GivingLaws.{kept_then, kept_as}
 use Rattle.turns.specs.Holding.{Holds}
 use Rattle.turns.specs.Scheduling.{Runs}
 use Rattle.turns.specs.Turning.{Before, After}
@@ -28,11 +27,11 @@ branch_zero n t u e = ap (λ k. cond (eqb k 0) u t) e
 branch_other : (n : ℕ) (t u : Action) → (n ≡ 0 → ⊥) → cond (eqb n 0) u t ≡ t
 branch_other n t u ne = grind arith
 
-module _ (s m procs lines : List ℕ) (count i : ℕ) (g : Program) (a : Configuration) (q : List ℕ) (b : Before s m g procs lines count i a q) where
-  as_none : {procs' : List ℕ} → After s m g procs procs' lines count count a (i ∷ q) (only_first i []) 1 → After s m g procs procs' lines count count a (i ∷ q) [] 1
+module _ (s m : List ℕ) (procs lines : List (List ℕ)) (count i : ℕ) (g : Program) (a : Configuration) (q : List ℕ) (b : Before s m g procs lines count i a q) where
+  as_none : {procs' : List (List ℕ)} → After s m g procs procs' lines count count a (i ∷ q) (only_first i []) 1 → After s m g procs procs' lines count count a (i ∷ q) [] 1
   as_none t = record { now = t.now; steps = t.steps; holding = t.holding; scheduled = t.scheduled; shown = t.shown ∙ ap (λ l. a.shown ++ l) (only_first_none i); falls = t.falls }
 
-  pub turn_stop : (procs' : List ℕ) → Doing s procs i Stop → Kept procs procs' i (ended (record_at procs i) stopped) → After s m g procs procs' lines count count a q [] 0
+  pub turn_stop : (procs' : List (List ℕ)) → Doing s procs i Stop → Kept procs procs' i (ended (record_at procs i) stopped) → After s m g procs procs' lines count count a q [] 0
   turn_stop procs' d k = go own.worker.todo refl (standing holds (record_at procs i).place Stop Stop refl d.is refl)
     where
       own : Runs a.workers i
@@ -47,8 +46,8 @@ module _ (s m procs lines : List ℕ) (count i : ℕ) (g : Program) (a : Configu
           (b.holding.ends i own.worker own.there) (stops is_x) (not_running stopped refl) (omega arith)
 
   module _ (v : ℕ) (vs : List ℕ) (given : Valued) (is_vs : vs ≡ (record_at procs i).vars) (ev : Evaluates s vs v 256 given) where
-    pub turn_set : (p1 p2 : List ℕ) (x : ℕ) → Doing s procs i (Set x v) → Kept procs p1 i (assigned (record_at procs i) x given.value) → Kept p1 p2 i (moved (record_at p1 i) given.next) → After s m g procs p2 lines count count a (i ∷ q) [] 1
-    turn_set p1 p2 x d k1 k2 = go own.worker.todo refl (standing holds (record_at procs i).place (Set x v) (Set x v) refl d.is refl)
+    pub turn_set : (p2 : List (List ℕ)) (x : ℕ) → Doing s procs i (Set x v) → Kept procs p2 i (moved (assigned (record_at procs i) x given.value) given.next) → After s m g procs p2 lines count count a (i ∷ q) [] 1
+    turn_set p2 x d k = go own.worker.todo refl (standing holds (record_at procs i).place (Set x v) (Set x v) refl d.is refl)
       where
         own : Runs a.workers i
         own = b.scheduled.ready i (in_here i q)
@@ -68,12 +67,12 @@ module _ (s m procs lines : List ℕ) (count i : ℕ) (g : Program) (a : Configu
             let n : given.value ≡ value w.vars e = val.value ∙ ap (λ vs. value vs e) (is_vs ∙ holds.vars) in
             let below = place_below holds in
             as_none (lone_on s m procs lines count i g a q b w own.there own.runs p2 (moved (assigned (record_at procs i) x given.value) given.next)
-            (kept_then k1 (kept_as (ap (λ r. moved r given.next) k1.at) k2)) (with_var w x (value w.vars e) t)
+            k (with_var w x (value w.vars e) t)
             (holds_assigned holds own.runs x (value w.vars e) given.value given.next t holds.behind n val.rest (subst (λ (p : ℕ). Seconds m p t) z secs) (omega arith))
             (b.holding.ends i w own.there) [] (sets x e t is_y) refl
             (weight_moved (length s) (record_at procs i) given.next (holds.state ∙ own.runs) below (omega arith)))
 
-    pub turn_show : (p1 : List ℕ) → Doing s procs i (Show v) → Kept procs p1 i (moved (record_at procs i) given.next) → After s m g procs p1 lines count count a (i ∷ q) (only_first i (given.value ∷ [])) 1
+    pub turn_show : (p1 : List (List ℕ)) → Doing s procs i (Show v) → Kept procs p1 i (moved (record_at procs i) given.next) → After s m g procs p1 lines count count a (i ∷ q) (only_first i (given.value ∷ [])) 1
     turn_show p1 d k = go own.worker.todo refl (standing holds (record_at procs i).place (Show v) (Show v) refl d.is refl)
       where
         own : Runs a.workers i
@@ -99,7 +98,7 @@ module _ (s m procs lines : List ℕ) (count i : ℕ) (g : Program) (a : Configu
             (b.holding.ends i w own.there) (value w.vars e ∷ []) (shows e t is_y) refl
             (weight_moved (length s) (record_at procs i) given.next (holds.state ∙ own.runs) below (omega arith)))
 
-    if_way : (p1 : List ℕ) (to : ℕ) → Doing s procs i (If v) → Kept procs p1 i (moved (record_at procs i) to) →
+    if_way : (p1 : List (List ℕ)) (to : ℕ) → Doing s procs i (If v) → Kept procs p1 i (moved (record_at procs i) to) →
         ((t u : Action) (e : Expression) (y : List ℕ) → given.value ≡ value (record_at procs i).vars e → drop given.next s ≡ row_a t ++ (row_a u ++ y) → (record_at procs i).place < given.next → Seconds m given.next t → Seconds m (given.next + length (row_a t)) u →
         get_or m (record_at procs i).place 0 ≡ given.next + length (row_a t) → Way s m (record_at procs i).place to (cond (eqb (value (record_at procs i).vars e) 0) u t)) → After s m g procs p1 lines count count a (i ∷ q) [] 1
     if_way p1 to d k way = go own.worker.todo refl (standing holds (record_at procs i).place (If v) (If v) refl d.is refl)
@@ -135,12 +134,12 @@ module _ (s m procs lines : List ℕ) (count i : ℕ) (g : Program) (a : Configu
             deep_if true t u h = omega arith
             deep_if false t u h = omega arith
 
-    pub turn_else : (p1 : List ℕ) (at : ℕ) → Doing s procs i (If v) → at ≡ (record_at procs i).place → given.value ≡ 0 → Kept procs p1 i (moved (record_at procs i) (get_or m at 0)) → After s m g procs p1 lines count count a (i ∷ q) [] 1
+    pub turn_else : (p1 : List (List ℕ)) (at : ℕ) → Doing s procs i (If v) → at ≡ (record_at procs i).place → given.value ≡ 0 → Kept procs p1 i (moved (record_at procs i) (get_or m at 0)) → After s m g procs p1 lines count count a (i ∷ q) [] 1
     turn_else p1 at d is zero' k = if_way p1 (get_or m at 0) d k (λ t u e y n rows lt one two second.
         subst (λ (x : Action). Way s m (record_at procs i).place (get_or m at 0) x) (sym (branch_zero (value (record_at procs i).vars e) t u (sym n ∙ zero')))
         (way_taken s m (record_at procs i).place given.next (get_or m at 0) t u y false rows lt one two second (ap (λ p. get_or m p 0) is)))
 
-    pub turn_then : (p1 : List ℕ) → Doing s procs i (If v) → (given.value ≡ 0 → ⊥) → Kept procs p1 i (moved (record_at procs i) given.next) → After s m g procs p1 lines count count a (i ∷ q) [] 1
+    pub turn_then : (p1 : List (List ℕ)) → Doing s procs i (If v) → (given.value ≡ 0 → ⊥) → Kept procs p1 i (moved (record_at procs i) given.next) → After s m g procs p1 lines count count a (i ∷ q) [] 1
     turn_then p1 d ne k = if_way p1 given.next d k (λ t u e y n rows lt one two second.
         subst (λ (x : Action). Way s m (record_at procs i).place given.next x) (sym (branch_other (value (record_at procs i).vars e) t u (λ z. ne (n ∙ z))))
         (way_taken s m (record_at procs i).place given.next given.next t u y true rows lt one two second refl))

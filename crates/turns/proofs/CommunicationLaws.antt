@@ -48,16 +48,16 @@ waiting_side n v y b z = go (wish v.todo) z
     go none z = absurd (some_none z refl)
     go (some d) z = (b d y z).1
 
-module _ (s m procs lines : List ℕ) (count i : ℕ) (g : Program) (a : Configuration) (q : List ℕ) (b : Before s m g procs lines count i a q) (w : Worker) (n : nth a.workers i ≡ some w) (r : w.state ≡ running) where
+module _ (s m : List ℕ) (procs lines : List (List ℕ)) (count i : ℕ) (g : Program) (a : Configuration) (q : List ℕ) (b : Before s m g procs lines count i a q) (w : Worker) (n : nth a.workers i ≡ some w) (r : w.state ≡ running) where
   -- nothing is done, and the process is ready no more
-  pub stays : (procs' lines' : List ℕ) → procs' ≡ procs → Leaves g a.workers (waiter_at lines) (waiter_at lines') (In (i ∷ q)) i w → After s m g procs procs' lines' count count a q [] 0
+  pub stays : (procs' lines' : List (List ℕ)) → procs' ≡ procs → Leaves g a.workers (waiter_at lines) (waiter_at lines') (In (i ∷ q)) i w → After s m g procs procs' lines' count count a q [] 0
   stays procs' lines' e l = record {
     now = a;
     steps = here;
-    holding = subst (λ (p : List ℕ). Holding s m p count a) (sym e) b.holding;
+    holding = subst (λ (p : List (List ℕ)). Holding s m p count a) (sym e) b.holding;
     scheduled = scheduled_off a.workers (In q) i w b.scheduled (in_here i q) b.once (λ k p. in_split i q k p) (λ k p. in_there i q k p) n (λ k ne. refl) l;
     shown = sym (append-nil a.shown);
-    falls = let z = ap (λ (p : List ℕ). potential s p count) e in omega arith;
+    falls = let z = ap (λ (p : List (List ℕ)). potential s p count) e in omega arith;
   }
 
   module _ (c : ℕ) (wishes : wish w.todo ≡ some c) where
@@ -67,7 +67,7 @@ module _ (s m procs lines : List ℕ) (count i : ℕ) (g : Program) (a : Configu
     not_alone : (line : ℕ) (w' : Worker) (ws : List Worker) (ns : List ℕ) → w.state ≡ running → Alone g line w w' ws ns → ⊥
     not_alone line w' ws ns x y = some_none wishes (alone_wish y)
 
-    pub no_end : (procs' lines' : List ℕ) → procs' ≡ procs → lines' ≡ lines → none ≡ end (record_at procs i).ends c → After s m g procs procs' lines' count count a q [] 0
+    pub no_end : (procs' lines' : List (List ℕ)) → procs' ≡ procs → lines' ≡ lines → none ≡ end (record_at procs i).ends c → After s m g procs procs' lines' count count a q [] 0
     no_end procs' lines' e f z =
         let nowhere : waiting w ≡ none = waits_in ∙ (ap (λ es. end es c) (sym (b.holding.each i w n).ends) ∙ sym z) in
         stays procs' lines' e (record {
@@ -75,8 +75,8 @@ module _ (s m procs lines : List ℕ) (count i : ℕ) (g : Program) (a : Configu
           lone = not_alone;
           first = λ j v w' v' x y t u o. some_none (together_facing o).is_a nowhere;
           second = λ j v w' v' x y t u o. some_none (together_facing o).is_b nowhere;
-          from = λ d k x o. inl (sym (ap (λ (l : List ℕ). waiter_at l d) f) ∙ o);
-          keeps = λ d k x y o. ap (λ (l : List ℕ). waiter_at l d) f ∙ o;
+          from = λ d k x o. inl (sym (ap (λ (l : List (List ℕ)). waiter_at l d) f) ∙ o);
+          keeps = λ d k x y o. ap (λ (l : List (List ℕ)). waiter_at l d) f ∙ o;
         })
 
     module _ (e : Endpoint) (is : some e ≡ end (record_at procs i).ends c) where
@@ -96,7 +96,7 @@ module _ (s m procs lines : List ℕ) (count i : ℕ) (g : Program) (a : Configu
           shared i k w v.worker e (λ z. v.idle (subst (In (i ∷ q)) z (in_here i q))) n v.there r v.runs at_end v.at
 
       -- whoever waits at the facing end can take no step together with this process
-      pub parked : (procs' lines' : List ℕ) → procs' ≡ procs → Parked lines lines' e i true →
+      pub parked : (procs' lines' : List (List ℕ)) → procs' ≡ procs → Parked lines lines' e i true →
           ((j : ℕ) (v w' v' : Worker) → waiter_at lines (facing e) ≡ some j → nth a.workers j ≡ some v → Together w v w' v' → ⊥) →
           ((j : ℕ) (v w' v' : Worker) → waiter_at lines (facing e) ≡ some j → nth a.workers j ≡ some v → Together v w v' w' → ⊥) → After s m g procs procs' lines' count count a q [] 0
       parked procs' lines' same pk one two = stays procs' lines' same (record {
@@ -143,7 +143,7 @@ module _ (s m procs lines : List ℕ) (count i : ℕ) (g : Program) (a : Configu
         facing_second = let sd = end_below.1 in record { a = facing e; b = e; is_a = other.at; is_b = at_end; line = refl; sides = λ z. omega arith }
 
         -- Processes x and y, which are i and j in one order or the other, have taken a step together.
-        module _ (procs' lines' : List ℕ) (clear : Noted lines lines' (facing e) none) (x y : ℕ) (wx wy : Worker) (ne : x ≡ y → ⊥) (nx : nth a.workers x ≡ some wx) (ny : nth a.workers y ≡ some wy)
+        module _ (procs' lines' : List (List ℕ)) (clear : Noted lines lines' (facing e) none) (x y : ℕ) (wx wy : Worker) (ne : x ≡ y → ⊥) (nx : nth a.workers x ≡ some wx) (ny : nth a.workers y ≡ some wy)
             (rx : wx.state ≡ running) (ry : wy.state ≡ running) (f : Facing (waiting wx) (waiting wy)) (in_x : In (j ∷ i ∷ q) x) (in_y : In (j ∷ i ∷ q) y)
             (apart : Apart procs procs' x y) (t : Meets s m procs procs' x y wx wy) where
           works' : List Worker

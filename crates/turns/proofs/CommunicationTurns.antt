@@ -12,7 +12,7 @@ use Rattle.turns.specs.Turning.{Oddness, Before, After, Parked}
 use Rattle.turns.proofs.Queue.{in_here, in_there}
 use Rattle.turns.proofs.CommunicationLaws.{no_end, line_below, taken_end, parked, other, other_below, other_not, not_itself, facing_first, facing_second, met}
 
-module _ (s m procs lines : List ℕ) (count i c : ℕ) (g : Program) (a : Configuration) (q : List ℕ) (b : Before s m g procs lines count i a q)
+module _ (s m : List ℕ) (procs lines : List (List ℕ)) (count i c : ℕ) (g : Program) (a : Configuration) (q : List ℕ) (b : Before s m g procs lines count i a q)
     (wishes : (w : Worker) → nth a.workers i ≡ some w → wish w.todo ≡ some c) where
   pub turn_nowhere : none ≡ end (record_at procs i).ends c → After s m g procs procs lines count count a q [] 0
   turn_nowhere z = let u = b.scheduled.ready i (in_here i q) in no_end s m procs lines count i g a q b u.worker u.there u.runs c (wishes u.worker u.there) procs lines refl refl z
@@ -21,11 +21,11 @@ module _ (s m procs lines : List ℕ) (count i c : ℕ) (g : Program) (a : Confi
     pub turn_line : e.line < count
     turn_line = let u = b.scheduled.ready i (in_here i q) in line_below s m procs lines count i g a q b u.worker u.there u.runs c (wishes u.worker u.there) e is
 
-    pub turn_odd : (lines' : List ℕ) → Parked lines lines' e i false → Oddness g a
+    pub turn_odd : (lines' : List (List ℕ)) → Parked lines lines' e i false → Oddness g a
     turn_odd lines' k = let u = b.scheduled.ready i (in_here i q) in taken_end s m procs lines count i g a q b u.worker u.there u.runs c (wishes u.worker u.there) e is k.0 k.1
 
     module _ (d : Endpoint) (is_d : d ≡ facing e) where
-      pub turn_first : (lines' : List ℕ) → none ≡ waiter_at lines d → Parked lines lines' e i true → After s m g procs procs lines' count count a q [] 0
+      pub turn_first : (lines' : List (List ℕ)) → none ≡ waiter_at lines d → Parked lines lines' e i true → After s m g procs procs lines' count count a q [] 0
       turn_first lines' z pk =
           let u = b.scheduled.ready i (in_here i q) in
           let no : (j : ℕ) → waiter_at lines (facing e) ≡ some j → ⊥ = λ j o. (let y : ◌≡◌ {A = ℕ} 0 1 = cc (ap (waiter_at lines) is_d) in omega arith) in
@@ -59,7 +59,7 @@ module _ (s m procs lines : List ℕ) (count i c : ℕ) (g : Program) (a : Confi
         other_holds : Holds s m (record_at procs j) waits.worker
         other_holds = b.holding.each j waits.worker waits.there
 
-        turn_met_first : (procs' lines' : List ℕ) → Met s m procs procs' i j true → Noted lines lines' d none → After s m g procs procs' lines' count count a (j ∷ i ∷ q) [] 1 × (In (i ∷ q) j → ⊥)
+        turn_met_first : (procs' lines' : List (List ℕ)) → Met s m procs procs' i j true → Noted lines lines' d none → After s m g procs procs' lines' count count a (j ∷ i ∷ q) [] 1 × (In (i ∷ q) j → ⊥)
         unfolding waits
         turn_met_first procs' lines' mt clear =
             let t = mt ne in (
@@ -70,7 +70,7 @@ module _ (s m procs lines : List ℕ) (count i c : ℕ) (g : Program) (a : Confi
               turn_not,
             )
 
-        turn_met_other : (procs' lines' : List ℕ) → Met s m procs procs' j i true → Noted lines lines' d none → After s m g procs procs' lines' count count a (j ∷ i ∷ q) [] 1 × (In (i ∷ q) j → ⊥)
+        turn_met_other : (procs' lines' : List (List ℕ)) → Met s m procs procs' j i true → Noted lines lines' d none → After s m g procs procs' lines' count count a (j ∷ i ∷ q) [] 1 × (In (i ∷ q) j → ⊥)
         unfolding waits
         turn_met_other procs' lines' mt clear =
             let ne' : j ≡ i → ⊥ = λ z. ne (sym z) in
@@ -82,11 +82,11 @@ module _ (s m procs lines : List ℕ) (count i c : ℕ) (g : Program) (a : Confi
               turn_not,
             )
 
-        pub turn_met : (procs' lines' : List ℕ) → Exchanged s m procs procs' i j true → Noted lines lines' d none → After s m g procs procs' lines' count count a (j ∷ i ∷ q) [] 1 × (In (i ∷ q) j → ⊥)
+        pub turn_met : (procs' lines' : List (List ℕ)) → Exchanged s m procs procs' i j true → Noted lines lines' d none → After s m g procs procs' lines' count count a (j ∷ i ∷ q) [] 1 × (In (i ∷ q) j → ⊥)
         turn_met procs' lines' x clear = elim x [ inl t ↦ turn_met_first procs' lines' t clear | inr t ↦ turn_met_other procs' lines' t clear ]
 
         -- the other is not at what fits
-        pub turn_unmet : (procs' lines' : List ℕ) → Exchanged s m procs procs' i j false → Parked lines lines' e i true → After s m g procs procs' lines' count count a q [] 0
+        pub turn_unmet : (procs' lines' : List (List ℕ)) → Exchanged s m procs procs' i j false → Parked lines lines' e i true → After s m g procs procs' lines' count count a q [] 0
         turn_unmet procs' lines' x pk =
             parked s m procs lines count i g a q b own.worker own.there own.runs c its_wish e is procs' lines' x.0.0 pk
             (λ k v w' v' z n t. x.0.1 own.worker v w' v' its_holds (its k v z n) t)

@@ -14,7 +14,7 @@ holds_at {s} {m} {w} {v} {r} {q} e f h = subst (λ (o : Record). Holds s m o v) 
 pub below_as : {n m : ℕ} {es ds : List (Option Endpoint)} → n ≤ m → ds ≡ es → Below n es → Below m ds
 below_as {n} {m} {es} {ds} le e b c d is = let k = b c d (ap (λ os. end os c) (sym e) ∙ is) in let k0 = k.0 in (omega arith, k.1)
 
-module _ (s m procs procs' : List ℕ) (count : ℕ) (a b : Configuration) (h : Holding s m procs count a) where
+module _ (s m : List ℕ) (procs procs' : List (List ℕ)) (count : ℕ) (a b : Configuration) (h : Holding s m procs count a) where
   pub holding_one : (i : ℕ) (w : Worker) (r : Record) → Kept procs procs' i r → Holds s m r w → Below a.next w.ends → b.workers ≡ put a.workers i w → b.next ≡ a.next → Holding s m procs' count b
   holding_one i w r k holds below works next = record {
     many = ap length works ∙ (length_put a.workers i w ∙ h.many);

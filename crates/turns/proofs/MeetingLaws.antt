@@ -67,11 +67,11 @@ weight_moved n r p run a b =
     omega arith
 
 -- no step together where the instructions are no pair
-pub unmet : (s m procs procs' : List ℕ) (i j : ℕ) → procs' ≡ procs → (Pairing s (record_at procs i).place (record_at procs j).place → ⊥) → Met s m procs procs' i j false
+pub unmet : (s m : List ℕ) (procs procs' : List (List ℕ)) (i j : ℕ) → procs' ≡ procs → (Pairing s (record_at procs i).place (record_at procs j).place → ⊥) → Met s m procs procs' i j false
 unmet s m procs procs' i j e n = (e, λ w v w' v' h k t. n (pairing h k t))
 
 -- the first gives, the second takes
-module _ (s m procs p1 p2 p3 : List ℕ) (i j : ℕ) (v at d x n : ℕ) (two : Instruction) (vs : List ℕ) (given : Valued)
+module _ (s m : List ℕ) (procs p1 p2 p3 : List (List ℕ)) (i j : ℕ) (v at d x n : ℕ) (two : Instruction) (vs : List ℕ) (given : Valued)
     (gives : Giving s (record_at procs i).place v) (is_at : at ≡ (record_at procs j).place) (is_two : Some two ≡ instruction_at s at) (kind : two ≡ Take d x n) (words : Words s at two)
     (is_vs : vs ≡ (record_at procs i).vars) (ev : Evaluates s vs v 256 given)
     (k1 : Kept procs p1 j (assigned (record_at procs j) x given.value)) (k2 : Kept p1 p2 j (moved (record_at p1 j) n)) (k3 : Kept p2 p3 i (moved (record_at p2 i) given.next))
@@ -145,7 +145,7 @@ deep_way t u n true h = omega arith
 deep_way t u n false h = omega arith
 
 -- the first chooses, the second offers
-module _ (s m procs p1 p2 : List ℕ) (i j : ℕ) (way next at d f to : ℕ) (two : Instruction)
+module _ (s m : List ℕ) (procs p1 p2 : List (List ℕ)) (i j : ℕ) (way next at d f to : ℕ) (two : Instruction)
     (chooses : Choosing s (record_at procs i).place way next) (is_at : at ≡ (record_at procs j).place) (is_two : Some two ≡ instruction_at s at) (kind : two ≡ Offer d f) (words : Words s at two)
     (is_to : to ≡ cond (eqb way 0) f (get_or m at 0))
     (k1 : Kept procs p1 i (moved (record_at procs i) next)) (k2 : Kept p1 p2 j (moved (record_at p1 j) to))
@@ -266,7 +266,7 @@ choosing s at p c w n k e is kind words =
     record { conversation = c; is = ap Some (sym kind) ∙ (is ∙ ap (instruction_at s) e); starts = u.3 ∙ ap (λ n. n + 3) e; within = u.4 }
 
 -- a step together in one order, where the other order is none
-module _ (s m procs procs' : List ℕ) (i j : ℕ) where
+module _ (s m : List ℕ) (procs procs' : List (List ℕ)) (i j : ℕ) where
   pub exchanged_first : (b : Bool) → Met s m procs procs' i j b → (Pairing s (record_at procs j).place (record_at procs i).place → ⊥) → Exchanged s m procs procs' i j b
   exchanged_first true t n = inl t
   exchanged_first false t n = (t, unmet s m procs procs' j i t.0 n)

@@ -28,12 +28,12 @@ sum_drop f h b (suc n) i d lo hi le drop = elim (same? i b) [
       let t = sum_drop f h (suc b) n i d lo' (omega arith) (λ k p q. le k (omega arith) (omega arith)) drop in omega arith)
 ]
 
-module _ (s procs procs' : List ℕ) (count i d : ℕ) (there : i < count) where
+module _ (s : List ℕ) (procs procs' : List (List ℕ)) (count i d : ℕ) (there : i < count) where
   pub potential_drop : ((k : ℕ) → k < count → (k ≡ i → ⊥) → weight (length s) (record_at procs' k) ≤ weight (length s) (record_at procs k)) →
       weight (length s) (record_at procs' i) + d ≤ weight (length s) (record_at procs i) → potential s procs' count + d ≤ potential s procs count
   potential_drop le drop = sum_drop (λ k. weight (length s) (record_at procs k)) (λ k. weight (length s) (record_at procs' k)) 0 count i d (omega arith) (omega arith) (λ k p q ne. le k (omega arith) ne) drop
 
-pub potential_more : (s procs : List ℕ) (count : ℕ) → potential s procs (suc count) ≡ potential s procs count + weight (length s) (record_at procs count)
+pub potential_more : (s : List ℕ) (procs : List (List ℕ)) (count : ℕ) → potential s procs (suc count) ≡ potential s procs count + weight (length s) (record_at procs count)
 potential_more s procs count =
     let F : ℕ → ℕ = λ k. weight (length s) (record_at procs k) in
     let z : 0 + count ≡ count = omega arith in

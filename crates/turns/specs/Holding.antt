@@ -24,7 +24,7 @@ abbrev pub Below : ℕ → List (Option Endpoint) → Type 0
 Below n es = (c : ℕ) (e : Endpoint) → end es c ≡ some e → (e.line < n) × (e.side < 2)
 
 -- The first so many records are the workers of a configuration. Each process but the first came with a line.
-pub record Holding (s second procs : List ℕ) (count : ℕ) (a : Configuration) : Type 0 where
+pub record Holding (s second : List ℕ) (procs : List (List ℕ)) (count : ℕ) (a : Configuration) : Type 0 where
   pub many : length a.workers ≡ count
   pub lines : a.next ≡ count - 1
   pub each : (i : ℕ) (w : Worker) → nth a.workers i ≡ some w → Holds s second (record_at procs i) w
@@ -47,5 +47,5 @@ abbrev pub sum : List ℕ → ℕ
 sum [] = 0
 sum (n ∷ ns) = n + sum ns
 
-abbrev pub potential : List ℕ → List ℕ → ℕ → ℕ
+abbrev pub potential : List ℕ → List (List ℕ) → ℕ → ℕ
 potential s procs count = sum (table (λ k. weight (length s) (record_at procs k)) 0 count)

@@ -9,7 +9,7 @@ use Rattle.turns.specs.Holding.{Holds, weight}
 use Rattle.turns.specs.Scheduling.{waiting}
 
 -- process i is at an instruction
-pub record Doing (s procs : List ℕ) (i : ℕ) (k : Instruction) : Type 0 where
+pub record Doing (s : List ℕ) (procs : List (List ℕ)) (i : ℕ) (k : Instruction) : Type 0 where
   pub is : Some k ≡ instruction_at s (record_at procs i).place
   pub words : Words s (record_at procs i).place k
 
@@ -27,12 +27,12 @@ pub record Choosing (s : List ℕ) (at way next : ℕ) : Type 0 where
   pub within : next ≤ length s
 
 -- all records but i and j are as they were
-pub record Apart (procs procs' : List ℕ) (i j : ℕ) : Type 0 where
+pub record Apart (procs procs' : List (List ℕ)) (i j : ℕ) : Type 0 where
   pub long : length procs' ≡ length procs
   pub others : (k : ℕ) → (k ≢ i) → (k ≢ j) → record_at procs' k ≡ record_at procs k
 
 -- the step that processes i and j have taken together
-pub record Meets (s second procs procs' : List ℕ) (i j : ℕ) (w v : Worker) : Type 0 where
+pub record Meets (s second : List ℕ) (procs procs' : List (List ℕ)) (i j : ℕ) (w v : Worker) : Type 0 where
   pub first : Worker
   pub second' : Worker
   pub together : Facing (waiting w) (waiting v) → Together w v first second'
@@ -45,13 +45,13 @@ pub record Meets (s second procs procs' : List ℕ) (i j : ℕ) (w v : Worker) :
   pub first_less : weight (length s) (record_at procs' i) < weight (length s) (record_at procs i)
   pub second_less : weight (length s) (record_at procs' j) < weight (length s) (record_at procs j)
 
-abbrev pub Met : List ℕ → List ℕ → List ℕ → List ℕ → ℕ → ℕ → Bool → Type 0
+abbrev pub Met : List ℕ → List ℕ → List (List ℕ) → List (List ℕ) → ℕ → ℕ → Bool → Type 0
 Met s second procs procs' i j true = (i ≢ j) → Apart procs procs' i j ×
     ((w v : Worker) → Holds s second (record_at procs i) w → Holds s second (record_at procs j) v → w.state ≡ running → v.state ≡ running → Meets s second procs procs' i j w v)
 Met s second procs procs' i j false = (procs' ≡ procs) ×
     ((w v w' v' : Worker) → Holds s second (record_at procs i) w → Holds s second (record_at procs j) v → Together w v w' v' → ⊥)
 
 -- two processes have taken a step together, in one order or the other; or they cannot
-abbrev pub Exchanged : List ℕ → List ℕ → List ℕ → List ℕ → ℕ → ℕ → Bool → Type 0
+abbrev pub Exchanged : List ℕ → List ℕ → List (List ℕ) → List (List ℕ) → ℕ → ℕ → Bool → Type 0
 Exchanged s second procs procs' i j true = Met s second procs procs' i j true ⊎ Met s second procs procs' j i true
 Exchanged s second procs procs' i j false = Met s second procs procs' i j false × Met s second procs procs' j i false

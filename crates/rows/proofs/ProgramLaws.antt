@@ -1,5 +1,5 @@
 -- Processes one after the other up to the end of the rows, and the whole program, exactly.
-use Rattle.std.proofs.Common.{◌≡◌, ℕ, suc, ◌+◌, ◌-◌, ◌<◌, ◌≤◌, true, ◌≢◌, ◌⊎◌, List, [], ◌∷◌, ◌++◌, length, get_or, take as front, drop, set, sym, refl, ap, ◌∙◌, subst, inl, inr, append-nil, arith, length-append, length-drop, drop_of_length-le, length-take, get_or-drop, get_or-set_other, get_or-take, get_or-set_same, drop_at}
+use Rattle.std.proofs.Common.{◌≡◌, ℕ, suc, ◌+◌, ◌-◌, ◌<◌, ◌≤◌, ◌≢◌, ◌⊎◌, List, [], ◌∷◌, ◌++◌, length, get_or, take as front, drop, set, sym, refl, ap, ◌∙◌, subst, inl, inr, append-nil, arith, length-append, length-drop, drop_of_length-le, length-take, get_or-drop, get_or-set_other, get_or-take, get_or-set_same, drop_at}
 use mathlib.Core.Option.{some}
 use native.Mathlib.Decide.{dec_le}
 use Rattle.rows.specs.Reading.{SameBelow}

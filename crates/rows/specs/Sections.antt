@@ -1,5 +1,5 @@
 -- What the reader promises of the sections of the rows: the points, the processes, and the whole.
-use Rattle.std.specs.Prelude.{◌≡◌, ℕ, ◌+◌, ◌<◌, ◌≤◌, Bool, true, false, List, ◌++◌, length, drop, Option, MatchOption, ◌≢◌, slice_index}
+use Rattle.std.specs.Prelude.{◌≡◌, ℕ, ◌+◌, ◌<◌, ◌≤◌, List, ◌++◌, length, drop, Option, MatchOption, ◌≢◌, slice_index}
 use Rattle.std.proofs.Math.Option.{some}
 use Rattle.rows.specs.declared.map.Map.{Map}
 use Rattle.rows.specs.declared.lookup.Rows.{Rows}

@@ -16,10 +16,8 @@ fn point_size(kind: PointKind) -> usize
 {
     match kind {
         PointKind::Over => 1,
-        PointKind::Gives(_n) => 2,
-        PointKind::Takes(_n) => 2,
-        PointKind::Chooses(_n, _m) => 3,
-        PointKind::Offers(_n, _m) => 3,
+        PointKind::Gives(_) | PointKind::Takes(_) => 2,
+        PointKind::Chooses(..) | PointKind::Offers(..) => 3,
     }
 }
 
@@ -50,21 +48,11 @@ fn process_end(p: &[u32], at: usize, second: &mut [u16]) -> Option<usize>
     ensures ends { ProcessEnd p.now second.new at result }
     ensures before { SameBelow at second.old second.new }
 {
-    match head_at(p, at) {
-        None => None,
-        Some(head) => {
-            if head.count > 16 {
-                return None;
-            }
-            if head.variables > 16 {
-                return None;
-            }
-            if head.numbers > head.variables {
-                return None;
-            }
-            action_end(p, head.body, 256, 16 - head.count as u32, second)
-        }
+    let head = head_at(p, at)?;
+    if head.count > 16 || head.variables > 16 || head.numbers > head.variables {
+        return None;
     }
+    action_end(p, head.body, 256, 16 - head.count as u32, second)
 }
 
 // How many processes stand one after the other from a place to the end of the rows, if processes that keep the limits

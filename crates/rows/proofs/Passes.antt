@@ -65,94 +65,106 @@ call_rows s i g cw =
     let e5 : drop (i + 3 + g.count) s ≡ g.expressions ∷ drop g.numbers s = e3 ∙ cc in
     cc
 
-module _ (s : List ℕ) (i d r : ℕ) (k : Instruction) (is : Some k ≡ instruction_at s i) (w : Words s i k) where
-  pub stop_end : k ≡ Stop → (m : List ℕ) → ActionAt s m i d r (i + 1)
-  stop_end kind m =
-      let w' = subst (Words s i) kind w in
-      record { it = stop; rows = drop_one s i w'.1 ∙ cc; deeps = omega arith; news = omega arith; seconds = tt; ends = refl; further = omega arith; within = omega arith }
+-- An instruction is found at place i, where actions nested at most d deep and getting at most r conversations may stand.
+pub record Here (s : List ℕ) (i d r : ℕ) (k : Instruction) : Type 0 where
+  pub is : Some k ≡ instruction_at s i
+  pub words : Words s i k
 
-  pub give_leads : (c v j : ℕ) → k ≡ Give c v → ExpressionAt s v d j → Leads s i d r j d r
-  give_leads c v j kind a =
-      let w' = subst (Words s i) kind w in
+pub here_as : {s : List ℕ} {i d r : ℕ} {k l : Instruction} → Here s i d r k → k ≡ l → Here s i d r l
+here_as {s} {i} {d} {r} h kind = subst (Here s i d r) kind h
+
+-- it is the beginning of the action that stands there
+found : {s : List ℕ} {i d r : ℕ} {k : Instruction} → Here s i d r k → (t : Action) (x : List ℕ) → drop i s ≡ row_a t ++ x → Standing s i x k t
+found {s} {i} {d} {r} {k} here t x h = there s i k k t x here.is refl h
+
+module _ {s : List ℕ} {i d r : ℕ} where
+  pub stop_end : Here s i d r Stop → (m : List ℕ) → ActionAt s m i d r (i + 1)
+  stop_end here m =
+      let w = here.words in
+      record { it = stop; rows = drop_one s i w.1 ∙ cc; deeps = omega arith; news = omega arith; seconds = tt; ends = refl; further = omega arith; within = omega arith }
+
+  pub give_leads : {c v j : ℕ} → Here s i d r (Give c v) → ExpressionAt s v d j → Leads s i d r j d r
+  give_leads {c} {v} {j} here a =
+      let w = here.words in
       let o : i + 1 < length s = omega arith in
       let e0 : drop i s ≡ 1 ∷ c ∷ drop v s = drop_two s i o ∙ cc in
       let q = a.ends in
       let z : j ≡ i + 2 + length (row_e a.it) = omega arith in
       leads s i d r j r (give c a.it) (1 ∷ c ∷ row_e a.it) (e0 ∙ cc a.rows) (omega arith) (omega arith) a.within
-      (λ t. refl) (λ t p. let g = a.deep in omega arith) (λ t p. p) (λ m t p. subst (λ (b : ℕ). Seconds m b t) z p) (λ x b. go x b.it (there s i k (Give c v) b.it x is kind b.rows) b.deeps b.news)
+      (λ t. refl) (λ t p. let g = a.deep in omega arith) (λ t p. p) (λ m t p. subst (λ (b : ℕ). Seconds m b t) z p) (λ x b. go x b.it (found here b.it x b.rows) b.deeps b.news)
     where
       go : (x : List ℕ) (t : Action) → Standing s i x (Give c v) t → deep t ≤ d → new t ≤ r → Stood s j d r x
       go x t (at_give {e} {t = u} h) p q = record { it = u; rows = (row_e_prefix a.it e (drop j s) (row_a u ++ x) (sym a.rows ∙ h)).1; deeps = omega arith; news = q }
 
-  pub give_none : (c v : ℕ) → k ≡ Give c v → NoExpression s v d → NoAction s i d r
-  give_none c v kind nope t x h p q = go t (there s i k (Give c v) t x is kind h) p
+  pub give_none : {c v : ℕ} → Here s i d r (Give c v) → NoExpression s v d → NoAction s i d r
+  give_none {c} {v} here nope t x h p q = go t (found here t x h) p
     where
       go : (t : Action) → Standing s i x (Give c v) t → deep t ≤ d → ⊥
       go t (at_give {e} {t = u} h) p = nope e (row_a u ++ x) h (omega arith)
 
-  pub take_leads : (c y n : ℕ) → k ≡ Take c y n → Leads s i d r n d r
-  take_leads c y n kind =
-      let w' = subst (Words s i) kind w in
+  pub take_leads : {c y n : ℕ} → Here s i d r (Take c y n) → Leads s i d r n d r
+  take_leads {c} {y} {n} here =
+      let w = here.words in
       let o : i + 2 < length s = omega arith in
       let z : n ≡ i + 3 = omega arith in
       leads s i d r n r (take c y) (2 ∷ c ∷ y ∷ []) (drop_three s i o ∙ cc) (omega arith) (omega arith) (omega arith)
-      (λ t. refl) (λ t p. p) (λ t p. p) (λ m t p. subst (λ (b : ℕ). Seconds m b t) z p) (λ x b. go x b.it (there s i k (Take c y n) b.it x is kind b.rows) b.deeps b.news)
+      (λ t. refl) (λ t p. p) (λ t p. p) (λ m t p. subst (λ (b : ℕ). Seconds m b t) z p) (λ x b. go x b.it (found here b.it x b.rows) b.deeps b.news)
     where
       go : (x : List ℕ) (t : Action) → Standing s i x (Take c y n) t → deep t ≤ d → new t ≤ r → Stood s n d r x
       go x t (at_take {t = u} h) p q = record { it = u; rows = h; deeps = p; news = q }
 
-  pub choose_leads : (c y n : ℕ) → k ≡ Choose c y n → Leads s i d r n d r
-  choose_leads c y n kind =
-      let w' = subst (Words s i) kind w in
+  pub choose_leads : {c y n : ℕ} → Here s i d r (Choose c y n) → Leads s i d r n d r
+  choose_leads {c} {y} {n} here =
+      let w = here.words in
       let o : i + 2 < length s = omega arith in
       let z : n ≡ i + 3 = omega arith in
       leads s i d r n r (choose c y) (3 ∷ c ∷ y ∷ []) (drop_three s i o ∙ cc) (omega arith) (omega arith) (omega arith)
-      (λ t. refl) (λ t p. p) (λ t p. p) (λ m t p. subst (λ (b : ℕ). Seconds m b t) z p) (λ x b. go x b.it (there s i k (Choose c y n) b.it x is kind b.rows) b.deeps b.news)
+      (λ t. refl) (λ t p. p) (λ t p. p) (λ m t p. subst (λ (b : ℕ). Seconds m b t) z p) (λ x b. go x b.it (found here b.it x b.rows) b.deeps b.news)
     where
       go : (x : List ℕ) (t : Action) → Standing s i x (Choose c y n) t → deep t ≤ d → new t ≤ r → Stood s n d r x
       go x t (at_choose {t = u} h) p q = record { it = u; rows = h; deeps = p; news = q }
 
-  pub set_leads : (y v j : ℕ) → k ≡ Set y v → ExpressionAt s v d j → Leads s i d r j d r
-  set_leads y v j kind a =
-      let w' = subst (Words s i) kind w in
+  pub set_leads : {y v j : ℕ} → Here s i d r (Set y v) → ExpressionAt s v d j → Leads s i d r j d r
+  set_leads {y} {v} {j} here a =
+      let w = here.words in
       let o : i + 1 < length s = omega arith in
       let e0 : drop i s ≡ 5 ∷ y ∷ drop v s = drop_two s i o ∙ cc in
       let q = a.ends in
       let z : j ≡ i + 2 + length (row_e a.it) = omega arith in
       leads s i d r j r (set y a.it) (5 ∷ y ∷ row_e a.it) (e0 ∙ cc a.rows) (omega arith) (omega arith) a.within
-      (λ t. refl) (λ t p. let g = a.deep in omega arith) (λ t p. p) (λ m t p. subst (λ (b : ℕ). Seconds m b t) z p) (λ x b. go x b.it (there s i k (Set y v) b.it x is kind b.rows) b.deeps b.news)
+      (λ t. refl) (λ t p. let g = a.deep in omega arith) (λ t p. p) (λ m t p. subst (λ (b : ℕ). Seconds m b t) z p) (λ x b. go x b.it (found here b.it x b.rows) b.deeps b.news)
     where
       go : (x : List ℕ) (t : Action) → Standing s i x (Set y v) t → deep t ≤ d → new t ≤ r → Stood s j d r x
       go x t (at_set {e} {t = u} h) p q = record { it = u; rows = (row_e_prefix a.it e (drop j s) (row_a u ++ x) (sym a.rows ∙ h)).1; deeps = omega arith; news = q }
 
-  pub set_none : (y v : ℕ) → k ≡ Set y v → NoExpression s v d → NoAction s i d r
-  set_none y v kind nope t x h p q = go t (there s i k (Set y v) t x is kind h) p
+  pub set_none : {y v : ℕ} → Here s i d r (Set y v) → NoExpression s v d → NoAction s i d r
+  set_none {y} {v} here nope t x h p q = go t (found here t x h) p
     where
       go : (t : Action) → Standing s i x (Set y v) t → deep t ≤ d → ⊥
       go t (at_set {e} {t = u} h) p = nope e (row_a u ++ x) h (omega arith)
 
-  pub show_leads : (v j : ℕ) → k ≡ Show v → ExpressionAt s v d j → Leads s i d r j d r
-  show_leads v j kind a =
-      let w' = subst (Words s i) kind w in
+  pub show_leads : {v j : ℕ} → Here s i d r (Show v) → ExpressionAt s v d j → Leads s i d r j d r
+  show_leads {v} {j} here a =
+      let w = here.words in
       let o : i < length s = let l = a.within in let f = a.further in omega arith in
       let e0 : drop i s ≡ 7 ∷ drop v s = drop_one s i o ∙ cc in
       let q = a.ends in
       let z : j ≡ i + 1 + length (row_e a.it) = omega arith in
       leads s i d r j r (show a.it) (7 ∷ row_e a.it) (e0 ∙ cc a.rows) (omega arith) (omega arith) a.within
-      (λ t. refl) (λ t p. let g = a.deep in omega arith) (λ t p. p) (λ m t p. subst (λ (b : ℕ). Seconds m b t) z p) (λ x b. go x b.it (there s i k (Show v) b.it x is kind b.rows) b.deeps b.news)
+      (λ t. refl) (λ t p. let g = a.deep in omega arith) (λ t p. p) (λ m t p. subst (λ (b : ℕ). Seconds m b t) z p) (λ x b. go x b.it (found here b.it x b.rows) b.deeps b.news)
     where
       go : (x : List ℕ) (t : Action) → Standing s i x (Show v) t → deep t ≤ d → new t ≤ r → Stood s j d r x
       go x t (at_show {e} {t = u} h) p q = record { it = u; rows = (row_e_prefix a.it e (drop j s) (row_a u ++ x) (sym a.rows ∙ h)).1; deeps = omega arith; news = q }
 
-  pub show_none : (v : ℕ) → k ≡ Show v → NoExpression s v d → NoAction s i d r
-  show_none v kind nope t x h p q = go t (there s i k (Show v) t x is kind h) p
+  pub show_none : {v : ℕ} → Here s i d r (Show v) → NoExpression s v d → NoAction s i d r
+  show_none {v} here nope t x h p q = go t (found here t x h) p
     where
       go : (t : Action) → Standing s i x (Show v) t → deep t ≤ d → ⊥
       go t (at_show {e} {t = u} h) p = nope e (row_a u ++ x) h (omega arith)
 
-  pub offer_parts : (c f : ℕ) → k ≡ Offer c f → Parting s i d r f
-  offer_parts c f kind =
-      let w' = subst (Words s i) kind w in
+  pub offer_parts : {c f : ℕ} → Here s i d r (Offer c f) → Parting s i d r f
+  offer_parts {c} {f} here =
+      let w = here.words in
       let o : i + 1 < length s = omega arith in
       let e0 : drop i s ≡ 4 ∷ c ∷ drop f s = drop_two s i o ∙ cc in
       let z : f ≡ i + 2 = omega arith in
@@ -166,7 +178,7 @@ module _ (s : List ℕ) (i d r : ℕ) (k : Instruction) (is : Some k ≡ instruc
               seconds = (g ∙ z2, subst (λ (q : ℕ). Seconds m q b.one) z s1, subst (λ (q : ℕ). Seconds m q b.two) z2 s2);
               long = omega arith;
             };
-        on = λ x b. go x b.it (there s i k (Offer c f) b.it x is kind b.rows) b.deeps b.news;
+        on = λ x b. go x b.it (found here b.it x b.rows) b.deeps b.news;
         further = omega arith;
         within = omega arith;
       }
@@ -174,9 +186,9 @@ module _ (s : List ℕ) (i d r : ℕ) (k : Instruction) (is : Some k ≡ instruc
       go : (x : List ℕ) (t : Action) → Standing s i x (Offer c f) t → deep t ≤ d → new t ≤ r → TwoWays s f d r x
       go x t (at_offer {t = u} {u = v} h) p q = record { one = u; two = v; rows = h; some = omega arith; deep_one = omega arith; deep_two = omega arith; new_one = omega arith; new_two = omega arith }
 
-  pub if_parts : (v j : ℕ) → k ≡ If v → ExpressionAt s v d j → Parting s i d r j
-  if_parts v j kind a =
-      let w' = subst (Words s i) kind w in
+  pub if_parts : {v j : ℕ} → Here s i d r (If v) → ExpressionAt s v d j → Parting s i d r j
+  if_parts {v} {j} here a =
+      let w = here.words in
       let a1 = a.within in let a2 = a.further in let a3 = a.ends in let a4 = a.deep in
       let o : i < length s = omega arith in
       let e0 : drop i s ≡ 6 ∷ (row_e a.it ++ drop j s) = drop_one s i o ∙ cc a.rows in
@@ -193,7 +205,7 @@ module _ (s : List ℕ) (i d r : ℕ) (k : Instruction) (is : Some k ≡ instruc
               seconds = (g ∙ z2, subst (λ (q : ℕ). Seconds m q b.one) z s1, subst (λ (q : ℕ). Seconds m q b.two) z2 s2);
               long = omega arith;
             };
-        on = λ x b. go x b.it (there s i k (If v) b.it x is kind b.rows) b.deeps b.news;
+        on = λ x b. go x b.it (found here b.it x b.rows) b.deeps b.news;
         further = omega arith;
         within = omega arith;
       }
@@ -210,53 +222,53 @@ module _ (s : List ℕ) (i d r : ℕ) (k : Instruction) (is : Some k ≡ instruc
         new_two = omega arith;
       }
 
-  pub if_none : (v : ℕ) → k ≡ If v → NoExpression s v d → NoAction s i d r
-  if_none v kind nope t x h p q = go t (there s i k (If v) t x is kind h) p
+  pub if_none : {v : ℕ} → Here s i d r (If v) → NoExpression s v d → NoAction s i d r
+  if_none {v} here nope t x h p q = go t (found here t x h) p
     where
       go : (t : Action) → Standing s i x (If v) t → deep t ≤ d → ⊥
       go t (at_if {e} {t = u} {u = y} h) p = nope e (row_a u ++ (row_a y ++ x)) h (omega arith)
 
-  pub start_leads : (g : Call) (j : ℕ) → k ≡ Start g → 0 < r → ExpressionsAt s g.numbers d g.expressions j → Leads s i d r j d (r - 1)
-  start_leads g j kind pos a =
-      let w' = subst (Words s i) kind w in
+  pub start_leads : {g : Call} {j l : ℕ} → Here s i d r (Start g) → (1 ≤ r) × (l ≡ r - 1) → ExpressionsAt s g.numbers d g.expressions j → Leads s i d r j d l
+  start_leads {g} {j} {l} here less a =
+      let w = here.words in
       let cs = handed s g in
       let es = a.them in
-      let e0 = call_rows s i g w'.1 in
-      let hl = handed_long s i g w'.1 in
-      let q = a.ends in let cw = w'.1 in
+      let e0 = call_rows s i g w.1 in
+      let hl = handed_long s i g w.1 in
+      let q = a.ends in let cw = w.1 in
       let bound = a.within cw.within in
-      let e1 : drop i s ≡ 8 ∷ g.process ∷ length cs ∷ (cs ++ (length es ∷ (row_es es ++ drop j s))) = e0 ∙ cc (a.rows, a.many, hl, w'.0) in
+      let e1 : drop i s ≡ 8 ∷ g.process ∷ length cs ∷ (cs ++ (length es ∷ (row_es es ++ drop j s))) = e0 ∙ cc (a.rows, a.many, hl, w.0) in
       let l1 = length-append cs (length es ∷ row_es es) in
       let z : j ≡ i + 4 + length cs + length (row_es es) = omega arith in
-      leads s i d r j (r - 1) (start g.process cs es) (8 ∷ g.process ∷ length cs ∷ (cs ++ (length es ∷ row_es es))) (e1 ∙ simp append_assoc) (omega arith) (omega arith) bound
+      leads s i d r j l (start g.process cs es) (8 ∷ g.process ∷ length cs ∷ (cs ++ (length es ∷ row_es es))) (e1 ∙ simp append_assoc) (omega arith) (omega arith) bound
       (λ t. simp append_assoc) (λ t p. let b = a.deep in omega arith) (λ t p. omega arith) (λ m t p. subst (λ (b : ℕ). Seconds m b t) z p)
-      (λ x b. go x b.it (there s i k (Start g) b.it x is kind b.rows) b.deeps b.news)
+      (λ x b. go x b.it (found here b.it x b.rows) b.deeps b.news)
     where
-      go : (x : List ℕ) (t : Action) → Standing s i x (Start g) t → deep t ≤ d → new t ≤ r → Stood s j d (r - 1) x
+      go : (x : List ℕ) (t : Action) → Standing s i x (Start g) t → deep t ≤ d → new t ≤ r → Stood s j d l x
       go x t (at_start {es} {t = u} h) p q = record { it = u; rows = (row_es_prefix a.them es (drop j s) (row_a u ++ x) (a.many ∙ h.expressions) (sym a.rows ∙ h.numbers)).1; deeps = omega arith; news = omega arith }
 
-  pub start_none : (g : Call) → k ≡ Start g → NoExpressions s g.numbers d g.expressions → NoAction s i d r
-  start_none g kind nope t x h p q = go t (there s i k (Start g) t x is kind h) p
+  pub start_none : {g : Call} → Here s i d r (Start g) → NoExpressions s g.numbers d g.expressions → NoAction s i d r
+  start_none {g} here nope t x h p q = go t (found here t x h) p
     where
       go : (t : Action) → Standing s i x (Start g) t → deep t ≤ d → ⊥
       go t (at_start {es} {t = u} h) p = nope es (row_a u ++ x) (sym h.expressions) h.numbers (omega arith)
 
-  pub start_full : (g : Call) → k ≡ Start g → r ≡ 0 → NoAction s i d r
-  start_full g kind none t x h p q = go t (there s i k (Start g) t x is kind h) q
+  pub start_full : {g : Call} → Here s i d r (Start g) → (1 ≤ r → ⊥) → NoAction s i d r
+  start_full {g} here none t x h p q = go t (found here t x h) q
     where
       go : (t : Action) → Standing s i x (Start g) t → new t ≤ r → ⊥
       go t (at_start {t = u} h) q = omega arith
 
-  pub become_end : (g : Call) (j : ℕ) → k ≡ Become g → ExpressionsAt s g.numbers d g.expressions j → (m : List ℕ) → ActionAt s m i d r j
-  become_end g j kind a m =
-      let w' = subst (Words s i) kind w in
+  pub become_end : {g : Call} {j : ℕ} → Here s i d r (Become g) → ExpressionsAt s g.numbers d g.expressions j → (m : List ℕ) → ActionAt s m i d r j
+  become_end {g} {j} here a m =
+      let w = here.words in
       let cs = handed s g in
       let es = a.them in
-      let e0 = call_rows s i g w'.1 in
-      let hl = handed_long s i g w'.1 in
-      let q = a.ends in let cw = w'.1 in
+      let e0 = call_rows s i g w.1 in
+      let hl = handed_long s i g w.1 in
+      let q = a.ends in let cw = w.1 in
       let bound = a.within cw.within in
-      let e1 : drop i s ≡ 9 ∷ g.process ∷ length cs ∷ (cs ++ (length es ∷ (row_es es ++ drop j s))) = e0 ∙ cc (a.rows, a.many, hl, w'.0) in
+      let e1 : drop i s ≡ 9 ∷ g.process ∷ length cs ∷ (cs ++ (length es ∷ (row_es es ++ drop j s))) = e0 ∙ cc (a.rows, a.many, hl, w.0) in
       let l1 = length-append cs (length es ∷ row_es es) in
       record {
         it = become g.process cs es;
@@ -269,8 +281,8 @@ module _ (s : List ℕ) (i d r : ℕ) (k : Instruction) (is : Some k ≡ instruc
         within = bound;
       }
 
-  pub become_none : (g : Call) → k ≡ Become g → NoExpressions s g.numbers d g.expressions → NoAction s i d r
-  become_none g kind nope t x h p q = go t (there s i k (Become g) t x is kind h) p
+  pub become_none : {g : Call} → Here s i d r (Become g) → NoExpressions s g.numbers d g.expressions → NoAction s i d r
+  become_none {g} here nope t x h p q = go t (found here t x h) p
     where
       go : (t : Action) → Standing s i x (Become g) t → deep t ≤ d → ⊥
       go t (at_become {es} h) p = nope es x (sym h.expressions) h.numbers p

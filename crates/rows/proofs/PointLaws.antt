@@ -1,5 +1,5 @@
 -- Points at a place, exactly, and one after the other.
-use Rattle.std.proofs.Common.{◌≡◌, ℕ, ◌+◌, ◌<◌, ◌≤◌, ◌≢◌, ◌⊎◌, List, [], ◌∷◌, ◌++◌, length, get_or, drop, set, Some, None, sym, refl, ap, ◌∙◌, subst, inl, inr, append_assoc, arith, length-append, get_or-set_other, get_or-set_same}
+use Rattle.std.proofs.Common.{◌≡◌, ℕ, ◌+◌, ◌<◌, ◌≤◌, ◌≢◌, ◌⊎◌, List, [], ◌∷◌, ◌++◌, length, get_or, drop, set as set_list, Some, None, sym, refl, ap, ◌∙◌, subst, inl, inr, append_assoc, arith, length-append, get_or-set_other, get_or-set_same}
 use mathlib.Core.Option.{some}
 use Rattle.rows.specs.declared.decode.PointKind.{PointKind}
 use Rattle.rows.specs.declared.decode.PointKind.TheVariants.{Over, Gives, Takes, Chooses, Offers}
@@ -50,8 +50,8 @@ point_to s i (Offers m n) w = let o : i + 2 < length s = omega arith in record {
 pub points_none : (s table : List ℕ) (i : ℕ) → PointsAt s table i 0 i
 points_none s table i = record { them = []; many = refl; rows = refl; places = λ k p h. absurd (let b = nth_below [] k h in omega arith); within = λ h. h }
 
-module _ (s table : List ℕ) (i k j : ℕ) (a : PointsAt s table i k j) where
-  points_more : (kind : PointKind) → PointWords s j kind → k < length table → PointsAt s (set table k j) i (k + 1) (j + length (row_p (said kind)))
+module _ {s table : List ℕ} {i k j : ℕ} (a : PointsAt s table i k j) where
+  points_more : (kind : PointKind) → PointWords s j kind → k < length table → PointsAt s (set_list table k j) i (k + 1) (j + length (row_p (said kind)))
   points_more kind w room =
       let t = point_to s j kind w in
       let p = said kind in
@@ -65,7 +65,7 @@ module _ (s table : List ℕ) (i k j : ℕ) (a : PointsAt s table i k j) where
         within = λ h. t.within;
       }
     where
-      go : (m : ℕ) (q : Point) → ((nth a.them m ≡ some q) ⊎ ((m ≡ length a.them) × (q ≡ said kind))) → (x : List ℕ) × (drop (get_or (set table k j) m 0) s ≡ row_p q ++ x)
+      go : (m : ℕ) (q : Point) → ((nth a.them m ≡ some q) ⊎ ((m ≡ length a.them) × (q ≡ said kind))) → (x : List ℕ) × (drop (get_or (set_list table k j) m 0) s ≡ row_p q ++ x)
       go m q (inl h) =
           let b = nth_below a.them m h in let e = a.many in
           let old = a.places m q h in
@@ -74,14 +74,16 @@ module _ (s table : List ℕ) (i k j : ℕ) (a : PointsAt s table i k j) where
       go m q (inr h) =
           let t = point_to s j kind w in
           let here : m ≡ k = h.0 ∙ a.many in
-          let e1 : get_or (set table k j) m 0 ≡ j = ap (λ (n : ℕ). get_or (set table k j) n 0) here ∙ get_or-set_same table k j 0 room in
+          let e1 : get_or (set_list table k j) m 0 ≡ j = ap (λ (n : ℕ). get_or (set_list table k j) n 0) here ∙ get_or-set_same table k j 0 room in
           (drop (j + length (row_p (said kind))) s, ap (λ (n : ℕ). drop n s) e1 ∙ (t.rows ∙ ap (λ r. row_p r ++ drop (j + length (row_p (said kind))) s) (sym h.1)))
 
-  pub points_again : (kind : PointKind) (n : ℕ) → PointWords s j kind → k < length table → n ≡ length (row_p (said kind)) → PointsAt s (set table k j) i (k + 1) (j + n)
-  points_again kind n w room e = subst (λ (m : ℕ). PointsAt s (set table k j) i (k + 1) (j + m)) (sym e) (points_more kind w room)
+  pub points_again : (kind : PointKind) {n l : ℕ} {table' : List ℕ} → PointWords s j kind → l ≡ length (row_p (said kind)) → n ≡ k → k < length table → table' ≡ set_list table n j → PointsAt s table' i (k + 1) (j + l)
+  points_again kind {n} {l} {table'} w e at room put =
+      let written : table' ≡ set_list table k j = put ∙ ap (λ (m : ℕ). set_list table m j) at in
+      subst (λ t. PointsAt s t i (k + 1) (j + l)) (sym written) (subst (λ (m : ℕ). PointsAt s (set_list table k j) i (k + 1) (j + m)) (sym e) (points_more kind w room))
 
-  pub points_stuck : (n : ℕ) → k < n → None ≡ point_at s j → NoPoints s i n
-  points_stuck n lt is ps x many h =
+  pub points_stuck : {n : ℕ} → k < n → None ≡ point_at s j → NoPoints s i n
+  points_stuck {n} lt is ps x many h =
       let e = a.many in
       let r = rows_front row_p row_ps refl (λ b bs. refl) row_p_prefix a.them ps (drop j s) x (omega arith) (sym a.rows ∙ h) in
       go r.them (ap length r.all ∙ length-append a.them r.them) r.here
@@ -92,6 +94,3 @@ module _ (s table : List ℕ) (i k j : ℕ) (a : PointsAt s table i k j) where
           let f = point_found s j q (row_ps qs ++ x) (h ∙ append_assoc (row_p q) (row_ps qs) x) in
           let z : ◌≡◌ {A = ℕ} 0 1 = cc f.is in
           omega arith
-
-pub points_all : (s table : List ℕ) (i k n j : ℕ) → PointsAt s table i k j → k ≡ n → PointsAt s table i n j
-points_all s table i k n j a e = record { them = a.them; many = a.many ∙ e; rows = a.rows; places = a.places; within = a.within }

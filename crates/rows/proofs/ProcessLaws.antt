@@ -3,7 +3,7 @@ use Rattle.std.proofs.Common.{◌≡◌, ℕ, ◌+◌, ◌-◌, ◌<◌, ◌≤�
 use lib.Seq.{drop-append_seam}
 use Rattle.rows.specs.declared.decode.Head.{Head}
 use Rattle.rows.specs.Decode.{head_at, HeadWords}
-use Rattle.rows.specs.Reading.{Seconds, ActionAt, NoAction, ActionEnd, SameBelow}
+use Rattle.rows.specs.Reading.{Seconds, ActionAt, NoAction, ActionEnd}
 use Rattle.rows.specs.Mapped.{HeadIs}
 use Rattle.rows.specs.Sections.{ProcessTo, NoProcess, ProcessEnd}
 use Rattle.rows.proofs.Places.{word_at, word_here, words_left, rest_at, drop_one, drop_two, drop_list}
@@ -52,21 +52,12 @@ module _ (s : List ℕ) (i : ℕ) (p : Process) (x : List ℕ) (h : drop i s ≡
       let same : head_made i p ≡ k = cc in
       subst (λ q. HeadIs s i q p x) same head_is
 
-pub process_none : (s : List ℕ) (i : ℕ) → None ≡ head_at s i → NoProcess s i
-process_none s i is p x h f =
-    let e = head_found s i p x h in
-    let z : ◌≡◌ {A = ℕ} 0 1 = cc in
-    omega arith
-
 module _ (s : List ℕ) (i : ℕ) (k : Head) (is : Some k ≡ head_at s i) where
-  pub process_crowded : 16 < k.count → NoProcess s i
-  process_crowded lt p x h f = let a = head_there s i p x h k is in let b = f.talks in let c = a.count in omega arith
-
-  pub process_wide : 16 < k.variables → NoProcess s i
-  process_wide lt p x h f = let a = head_there s i p x h k is in let b = f.vars in let c = a.variables in omega arith
-
-  pub process_loaded : k.variables < k.numbers → NoProcess s i
-  process_loaded lt p x h f = let a = head_there s i p x h k is in let b = f.nums in let c = a.variables in let d = a.numbers in omega arith
+  pub process_unfit : (k.count ≤ 16 → k.variables ≤ 16 → k.numbers ≤ k.variables → ⊥) → NoProcess s i
+  process_unfit unfit p x h f =
+      let a = head_there s i p x h k is in
+      let b = f.talks in let c = a.count in let d = f.vars in let e = a.variables in let g = f.nums in let n = a.numbers in
+      unfit (omega arith) (omega arith) (omega arith)
 
   pub process_stuck : NoAction s k.body 256 (16 - k.count) → NoProcess s i
   process_stuck nope p x h f =
@@ -109,6 +100,3 @@ pub process_end : (s second : List ℕ) (i : ℕ) (k : Head) (r : Option ℕ) �
     ActionEnd s second k.body 256 (16 - k.count) r → ProcessEnd s second i r
 process_end s second i k None is w few wide loaded a = process_stuck s i k is a
 process_end s second i k (Some j) is w few wide loaded a = process_to s second i j k w few wide loaded a
-
-pub body_behind : (s m m' : List ℕ) (i : ℕ) (k : Head) → HeadWords s i k → SameBelow k.body m m' → SameBelow i m m'
-body_behind s m m' i k w same b h = same b (omega arith)

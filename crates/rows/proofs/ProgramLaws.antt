@@ -1,5 +1,5 @@
 -- Processes one after the other up to the end of the rows, and the whole program, exactly.
-use Rattle.std.proofs.Common.{◌≡◌, ℕ, suc, ◌+◌, ◌-◌, ◌<◌, ◌≤◌, true, ◌≢◌, ◌⊎◌, List, [], ◌∷◌, ◌++◌, length, get_or, take as front, drop, set, sym, refl, ap, ◌∙◌, subst, inl, inr, append-nil, arith, length-append, length-drop, drop_of_length-le, length-take, get_or-drop, get_or-set_other, get_or-take, get_or-set_same, drop_at}
+use Rattle.std.proofs.Common.{◌≡◌, ℕ, suc, ◌+◌, ◌-◌, ◌<◌, ◌≤◌, ◌≢◌, ◌⊎◌, List, [], ◌∷◌, ◌++◌, length, get_or, take as front, drop, set, sym, refl, ap, ◌∙◌, subst, inl, inr, append-nil, arith, length-append, length-drop, drop_of_length-le, length-take, get_or-drop, get_or-set_other, get_or-take, get_or-set_same, drop_at}
 use mathlib.Core.Option.{some}
 use native.Mathlib.Decide.{dec_le}
 use Rattle.rows.specs.Reading.{SameBelow}
@@ -49,9 +49,9 @@ processed_none s places second i h = record {
   within = h;
 }
 
-module _ (s places second : List ℕ) (i k j : ℕ) (a : Processed s places second i k j) where
-  pub processed_more : (second' : List ℕ) (l : ℕ) → k < 64 → k < length places → SameBelow j second second' → ProcessTo s second' j l → Processed s (set places k j) second' i (k + 1) l
-  processed_more second' l lt room same b =
+module _ {s places second : List ℕ} {i k j : ℕ} (a : Processed s places second i k j) where
+  processed_on : {second' : List ℕ} {l : ℕ} → k < 64 → k < length places → SameBelow j second second' → ProcessTo s second' j l → Processed s (set places k j) second' i (k + 1) l
+  processed_on {second'} {l} lt room same b =
       let p = b.it in
       let e = a.many in
       let t : drop j s ≡ row_r p ++ drop l s = b.at.rows ∙ ap (λ y. row_r p ++ y) b.behind in
@@ -83,6 +83,11 @@ module _ (s places second : List ℕ) (i k j : ℕ) (a : Processed s places seco
           let new : ProcessAt s second' j b.it × (j + length (row_r b.it) ≤ l) = (b.at, omega arith) in
           let new2 = subst (λ r. ProcessAt s second' j r × (j + length (row_r r) ≤ l)) (sym h.1) new in
           subst (λ (n : ℕ). ProcessAt s second' n q × (n + length (row_r q) ≤ l)) e1 new2
+
+  pub processed_more : {places' second' : List ℕ} {k' l : ℕ} → length places ≡ 64 → (k < 64) × (k' ≡ k + 1) × (places' ≡ set places k j) → SameBelow j second second' → ProcessTo s second' j l → Processed s places' second' i k' l
+  processed_more {places'} {second'} {k'} {l} wide add same b =
+      subst (λ (n : ℕ). Processed s places' second' i n l) (sym add.1)
+      (subst (λ ps. Processed s ps second' i (k + 1) l) (sym add.2) (processed_on add.0 (omega arith) same b))
 
   pub processed_all : length s ≤ j → ProcessesAt s places second i k
   processed_all h =
@@ -141,7 +146,7 @@ module _ (s places second : List ℕ) (i k j : ℕ) (a : Processed s places seco
   processed_stuck lt nope ps few h f = let m = one_more lt ps h f in nope m.it (row_rs m.behind) m.rows m.fine
 
 -- The program whose rows these are has its points where they were found, and its processes behind the other sides.
-module _ (s table : List ℕ) (n sides : ℕ) (first : get_or s 0 0 ≡ n) (a : PointsAt s table 1 n sides) where
+module _ {s table : List ℕ} {n sides : ℕ} (first : get_or s 0 0 ≡ n) (a : PointsAt s table 1 n sides) where
   pub record Behind (g : Program) : Type 0 where
     pub points : g.points ≡ a.them
     pub sides_rows : drop sides s ≡ g.other ++ row_rs g.procs
@@ -170,45 +175,46 @@ module _ (s table : List ℕ) (n sides : ℕ) (first : get_or s 0 0 ≡ n) (a : 
       let e : drop (sides + n) s ≡ row_rs g.procs = rest_at s sides n b.sides_rows ∙ drop_at g.other (row_rs g.procs) n o in
       nope g.procs r.procs e r.fine
 
-  module _ (places second : List ℕ) (k : ℕ) (room : n ≤ length s - sides) (few : n ≤ 256) (short : length s ≤ 16384) (some_word : 0 < length s) (b : ProcessesAt s places second (sides + n) k) where
-    the_program : Program
-    the_program = record { points = a.them; other = front n (drop sides s); procs = b.them }
+-- The map that says where the points and the processes are is that of the program.
+module _ {s : List ℕ} {n : ℕ} (m : Map) (first : get_or s 0 0 ≡ n) (a : PointsAt s m.points.at 1 n m.sides) (b : ProcessesAt s m.processes.at m.second (m.sides + n) m.processes.count)
+    (counted : m.points.count ≡ n) (room : n ≤ length s - m.sides) (some_word : 0 < length s) (short : length s ≤ 16384) where
+  abbrev sides_of : List ℕ
+  sides_of = front n (drop m.sides s)
 
-    program_reads : Reads s the_program
-    unfolding the_program
-    program_reads =
-        let within = a.within (omega arith) in
-        let os = front n (drop sides s) in
-        let long : length os ≡ n = simp (length-take, length-drop) (omega arith) in
-        let e1 : s ≡ get_or s 0 0 ∷ drop 1 s = drop_one s 0 some_word in
-        let e2 : drop sides s ≡ os ++ drop (sides + n) s = drop_list s sides n in
-        let m = a.many in
-        record {
-          rows = sym (e1 ∙ cc (a.rows, b.rows));
-          words = short;
-          points = omega arith;
-          sides = omega arith;
-          procs = let q = b.many in let f = b.few in omega arith;
-          fine = b.fine;
-        }
+  long : length sides_of ≡ n
+  long = let w = a.within (omega arith) in simp (length-take, length-drop) (omega arith)
 
-    program_mapped : (m : Map) → m.points ≡ table → m.processes ≡ places → m.second ≡ second → m.point_count ≡ n → m.sides ≡ sides → m.process_count ≡ k → Mapped s the_program m
-    unfolding the_program
-    program_mapped m e1 e2 e3 e4 e5 e6 = record {
-      point_count = e4 ∙ sym a.many;
-      points = λ i p h. let q = a.places i p h in (q.0, ap (λ t. drop (get_or t i 0) s) e1 ∙ q.1);
-      sides = λ i h.
-          let os = front n (drop sides s) in
-          let b2 : length os ≡ n = simp (length-take, length-drop) (omega arith) in
-          let lt : i < n = omega arith in
-          nth_get_d os i 0 h ∙ ap some (get_or-take n (drop sides s) i 0 lt ∙ (get_or-drop sides s i 0 ∙ ap (λ (q : ℕ). get_or s (q + i) 0) (sym e5)));
-      room =
-          let within = a.within (omega arith) in
-          let long : length (front n (drop sides s)) ≡ n = simp (length-take, length-drop) (omega arith) in
-          omega arith;
-      process_count = e6 ∙ sym b.many;
-      processes = λ i p h. subst (λ t. ProcessAt s t (get_or m.processes i 0) p) (sym e3) (subst (λ t. ProcessAt s second (get_or t i 0) p) (sym e2) (b.at i p h));
-    }
+  the_program : Program
+  the_program = record { points = a.them; other = sides_of; procs = b.them }
 
-    pub program_read : (m : Map) → m.points ≡ table → m.processes ≡ places → m.second ≡ second → m.point_count ≡ n → m.sides ≡ sides → m.process_count ≡ k → Filled s m
-    program_read m e1 e2 e3 e4 e5 e6 = record { short = short; program = the_program; known = record { reads = program_reads; mapped = program_mapped m e1 e2 e3 e4 e5 e6 } }
+  program_reads : Reads s the_program
+  unfolding the_program
+  program_reads =
+      let e1 : s ≡ get_or s 0 0 ∷ drop 1 s = drop_one s 0 some_word in
+      let e2 : drop m.sides s ≡ sides_of ++ drop (m.sides + n) s = drop_list s m.sides n in
+      let many = a.many in let l = long in let few = m.points.few in
+      record {
+        rows = sym (e1 ∙ cc (a.rows, b.rows));
+        words = short;
+        points = omega arith;
+        sides = omega arith;
+        procs = let q = b.many in let f = b.few in omega arith;
+        fine = b.fine;
+      }
+
+  program_mapped : Mapped s the_program m
+  unfolding the_program
+  program_mapped = record {
+    point_count = counted ∙ sym a.many;
+    points = a.places;
+    sides = λ i h.
+        let l = long in
+        let lt : i < n = omega arith in
+        nth_get_d sides_of i 0 h ∙ ap some (get_or-take n (drop m.sides s) i 0 lt ∙ get_or-drop m.sides s i 0);
+    room = let w = a.within (omega arith) in let l = long in omega arith;
+    process_count = sym b.many;
+    processes = b.at;
+  }
+
+  pub program_read : Filled s m
+  program_read = record { short = short; program = the_program; known = record { reads = program_reads; mapped = program_mapped } }

@@ -65,9 +65,9 @@ walk_none s m i d r = record {
   before = λ k h. refl;
 }
 
-module _ (s m0 m : List ℕ) (i d r j d' r' : ℕ) (a : Walk s m0 m i d r j d' r') where
-  pub walk_on : (l r'' : ℕ) → Leads s j d' r' l d' r'' → Walk s m0 m i d r l d' r''
-  walk_on l r'' b = record {
+module _ {s m0 m : List ℕ} {i d r j d' r' : ℕ} (a : Walk s m0 m i d r j d' r') where
+  pub walk_on : {l r'' : ℕ} → Leads s j d' r' l d' r'' → Walk s m0 m i d r l d' r''
+  walk_on {l} {r''} b = record {
     back = λ m' x n h w.
         let f = b.further in let o = a.order in
         let v = a.back m' x ((l - j) + n) (λ k q. h k (omega arith)) (b.back m' x n w) in
@@ -82,8 +82,8 @@ module _ (s m0 m : List ℕ) (i d r j d' r' : ℕ) (a : Walk s m0 m i d r j d' r
   pub walk_fault : NoAction s j d' r' → NoAction s i d r
   walk_fault nope t x h p q = let b = a.on x (record { it = t; rows = h; deeps = p; news = q }) in nope b.it x b.rows b.deeps b.news
 
-  pub walk_end : (l : ℕ) → ActionAt s m j d' r' l → ActionAt s m i d r l
-  walk_end l b =
+  pub walk_end : {l : ℕ} → ActionAt s m j d' r' l → ActionAt s m i d r l
+  walk_end {l} b =
       let w = a.back m (drop l s) (length (row_a b.it)) (λ k h. refl) (record { stood = record { it = b.it; rows = b.rows; deeps = b.deeps; news = b.news }; seconds = b.seconds; long = refl }) in
       let e = b.ends in let o = a.order in let f = b.further in let g = w.long in
       record {
@@ -97,50 +97,51 @@ module _ (s m0 m : List ℕ) (i d r j d' r' : ℕ) (a : Walk s m0 m i d r j d' r
         within = b.within;
       }
 
-  module _ (f : ℕ) (b : Parting s j d' r' f) where
-    pub walk_shallow : d' ≡ 0 → NoAction s i d r
-    walk_shallow z = walk_fault (λ t x h p q. let w = b.on x (record { it = t; rows = h; deeps = p; news = q }) in let g = w.some in omega arith)
+  module _ {f : ℕ} (b : Parting s j d' r' f) where
+    pub walk_shallow : (1 ≤ d' → ⊥) → NoAction s i d r
+    walk_shallow none = walk_fault (λ t x h p q. let w = b.on x (record { it = t; rows = h; deeps = p; news = q }) in let g = w.some in omega arith)
 
-    pub walk_first : NoAction s f (d' - 1) r' → NoAction s i d r
-    walk_first nope = walk_fault (λ t x h p q.
+    pub walk_first : {e : ℕ} → (1 ≤ d') × (e ≡ d' - 1) → NoAction s f e r' → NoAction s i d r
+    walk_first less nope = walk_fault (λ t x h p q.
         let w = b.on x (record { it = t; rows = h; deeps = p; news = q }) in
-        nope w.one (row_a w.two ++ x) w.rows w.deep_one w.new_one)
-
-    pub walk_before : (m1 : List ℕ) → SameBelow f m m1 → SameBelow i m0 m1
-    walk_before m1 same k h = let o = a.order in let g = b.further in a.before k h ∙ same k (omega arith)
+        let o = w.deep_one in
+        nope w.one (row_a w.two ++ x) w.rows (omega arith) w.new_one)
 
     -- the first way was walked up to place l, and the table now says that the second begins there
-    module _ (m1 : List ℕ) (l : ℕ) (same : SameBelow f m m1) (c : ActionAt s m1 f (d' - 1) r' l) (pos : 0 < d') (room : j < length m1) where
+    module _ {m1 : List ℕ} {l e : ℕ} (same : SameBelow f m m1) (less : (1 ≤ d') × (e ≡ d' - 1)) (c : ActionAt s m1 f e r' l) (room : length s ≤ length m1) where
       noted : (k : ℕ) (ne : k ≢ j) → get_or m1 k 0 ≡ get_or (set_list m1 j l) k 0
       noted k ne = sym (get_or-set_other m1 j k l 0 ne)
 
-      fork_back : (m' x : List ℕ) (n : ℕ) → SameBelow l (set_list m1 j l) m' → Written s m' l (d' - 1) r' x n → Written s m' i d r x ((l - i) + n)
+      inside : j < length m1
+      inside = let g1 = b.further in let g2 = c.further in let g3 = c.within in omega arith
+
+      fork_back : (m' x : List ℕ) (n : ℕ) → SameBelow l (set_list m1 j l) m' → Written s m' l e r' x n → Written s m' i d r x ((l - i) + n)
       fork_back m' x n h w =
           let o = a.order in let g1 = b.further in let g2 = c.further in let g3 = c.ends in let g4 = w.long in
           let two : TwoWays s f d' r' x = record {
             one = c.it;
             two = w.stood.it;
             rows = c.rows ∙ ap (λ y. row_a c.it ++ y) w.stood.rows;
-            some = pos;
-            deep_one = c.deeps;
-            deep_two = w.stood.deeps;
+            some = omega arith;
+            deep_one = let q = c.deeps in omega arith;
+            deep_two = let q = w.stood.deeps in omega arith;
             new_one = c.news;
             new_two = w.stood.news;
           } in
           let s1 : Seconds m' f c.it = seconds_same m1 m' f c.it (λ k p q. noted k (omega arith) ∙ h k (omega arith)) c.seconds in
           let s2 : Seconds m' (f + length (row_a c.it)) w.stood.it = subst (λ (q : ℕ). Seconds m' q w.stood.it) g3 w.seconds in
-          let g : get_or m' j 0 ≡ f + length (row_a c.it) = sym (h j (omega arith)) ∙ (get_or-set_same m1 j l 0 room ∙ g3) in
+          let g : get_or m' j 0 ≡ f + length (row_a c.it) = sym (h j (omega arith)) ∙ (get_or-set_same m1 j l 0 inside ∙ g3) in
           let low : SameBelow j m m' = λ k q. same k (omega arith) ∙ (noted k (omega arith) ∙ h k (omega arith)) in
           let v = a.back m' x ((f - j) + (length (row_a c.it) + length (row_a w.stood.it))) low (b.back m' x two s1 s2 g) in
-          let e : (j - i) + ((f - j) + (length (row_a c.it) + length (row_a w.stood.it))) ≡ (l - i) + n = omega arith in
-          record { stood = v.stood; seconds = v.seconds; long = v.long ∙ e }
+          let z : (j - i) + ((f - j) + (length (row_a c.it) + length (row_a w.stood.it))) ≡ (l - i) + n = omega arith in
+          record { stood = v.stood; seconds = v.seconds; long = v.long ∙ z }
 
-      fork_on : (x : List ℕ) → Stood s i d r x → Stood s l (d' - 1) r' x
+      fork_on : (x : List ℕ) → Stood s i d r x → Stood s l e r' x
       fork_on x h =
           let w = b.on x (a.on x h) in
-          record { it = w.two; rows = (row_a_prefix c.it w.one (drop l s) (row_a w.two ++ x) (sym c.rows ∙ w.rows)).1; deeps = w.deep_two; news = w.new_two }
+          record { it = w.two; rows = (row_a_prefix c.it w.one (drop l s) (row_a w.two ++ x) (sym c.rows ∙ w.rows)).1; deeps = let q = w.deep_two in omega arith; news = w.new_two }
 
-      pub walk_fork : Walk s m0 (set_list m1 j l) i d r l (d' - 1) r'
+      pub walk_fork : Walk s m0 (set_list m1 j l) i d r l e r'
       walk_fork =
           let o = a.order in let g1 = b.further in let g2 = c.further in let g3 = a.shallow in
           record {

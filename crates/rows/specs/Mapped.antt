@@ -3,6 +3,7 @@ use Rattle.std.specs.Prelude.{◌≡◌, ℕ, ◌+◌, ◌<◌, ◌≤◌, List,
 use Rattle.std.proofs.Math.Option.{some, none}
 use Rattle.rows.specs.declared.decode.Head.{Head}
 use Rattle.rows.specs.declared.decode.PointKind.{PointKind}
+use Rattle.rows.specs.declared.lookup.Rows.{Rows}
 use Rattle.rows.specs.declared.map.Map.{Map}
 use Rattle.rows.specs.Decode.{said}
 use Rattle.rows.specs.Reading.{Seconds}
@@ -26,17 +27,21 @@ pub record HeadIs (s : List ℕ) (i : ℕ) (h : Head) (p : Process) (x : List �
 
 -- The map of a program: its points and processes by their places, the other sides by where their list begins.
 pub record Mapped (s : List ℕ) (g : Program) (m : Map) : Type 0 where
-  pub point_count : m.point_count ≡ length g.points
-  pub points : (i : ℕ) (p : Point) → nth g.points i ≡ some p → (x : List ℕ) × (drop (slice_index m.points i) s ≡ row_p p ++ x)
+  pub point_count : m.points.count ≡ length g.points
+  pub points : (i : ℕ) (p : Point) → nth g.points i ≡ some p → (x : List ℕ) × (drop (slice_index m.points.at i) s ≡ row_p p ++ x)
   pub sides : (i : ℕ) → i < length g.other → nth g.other i ≡ some (slice_index s (m.sides + i))
   pub room : m.sides + length g.other ≤ length s
-  pub process_count : m.process_count ≡ length g.procs
-  pub processes : (i : ℕ) (p : Process) → nth g.procs i ≡ some p → ProcessAt s m.second (slice_index m.processes i) p
+  pub process_count : m.processes.count ≡ length g.procs
+  pub processes : (i : ℕ) (p : Process) → nth g.procs i ≡ some p → ProcessAt s m.second (slice_index m.processes.at i) p
 
 -- These words are this program, and this is its map.
 pub record Known (s : List ℕ) (m : Map) (g : Program) : Type 0 where
   pub reads : Reads s g
   pub mapped : Mapped s g m
+
+-- this holds of the program that the rows are, if they are one
+abbrev pub Of : Rows → (Program → Type 0) → Type 0
+Of r P = (g : Program) → Known r.words.now r.map.now g → P g
 
 -- what looking up a point, the other side of a point, and a process comes to
 abbrev pub PointIs : Program → ℕ → Option PointKind → Type 0

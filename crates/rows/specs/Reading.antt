@@ -2,7 +2,7 @@
 -- limits; or none does.
 use Rattle.std.specs.Prelude.{◌≡◌, ℕ, ◌+◌, ◌-◌, ◌<◌, ◌≤◌, List, ◌++◌, length, drop, Option, MatchOption, slice_index}
 use Rattle.rows.specs.declared.actions.Pass.{Pass}
-use Rattle.rows.specs.declared.actions.Pass.TheVariants.{Fault, End, On, Fork}
+use Rattle.rows.specs.declared.actions.Pass.TheVariants.{End, On, Fork}
 use Rattle.model.specs.Program.{Expression, Action, stop, give, take, choose, offer, set, if, show, start, become}
 use Rattle.model.specs.Rows.{row_e, row_es, row_a, deep_e, deep_es, deep, new}
 
@@ -111,9 +111,11 @@ pub record Parting (s : List ℕ) (i d r f : ℕ) : Type 0 where
   pub further : i < f
   pub within : f ≤ length s
 
--- what an instruction leads to
-abbrev pub Passed : List ℕ → ℕ → ℕ → ℕ → Pass → Type 0
-Passed s i d r Fault = NoAction s i d r
-Passed s i d r (End j) = (m : List ℕ) → ActionAt s m i d r j
-Passed s i d r (On j r') = Leads s i d r j d r'
-Passed s i d r (Fork f) = Parting s i d r f
+-- what an instruction leads to, where an action that keeps the limits may stand
+abbrev pub LeadsTo : List ℕ → ℕ → ℕ → ℕ → Pass → Type 0
+LeadsTo s i d r (End j) = (m : List ℕ) → ActionAt s m i d r j
+LeadsTo s i d r (On j r') = Leads s i d r j d r'
+LeadsTo s i d r (Fork f) = Parting s i d r f
+
+abbrev pub Passed : List ℕ → ℕ → ℕ → ℕ → Option Pass → Type 0
+Passed s i d r p = MatchOption p (NoAction s i d r) (LeadsTo s i d r)

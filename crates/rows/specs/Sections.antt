@@ -1,5 +1,5 @@
 -- What the reader promises of the sections of the rows: the points, the processes, and the whole.
-use Rattle.std.specs.Prelude.{◌≡◌, ℕ, ◌+◌, ◌<◌, ◌≤◌, Bool, true, false, List, ◌++◌, length, drop, Option, MatchOption, ◌≢◌, slice_index}
+use Rattle.std.specs.Prelude.{◌≡◌, ℕ, ◌+◌, ◌<◌, ◌≤◌, List, ◌++◌, length, drop, Option, MatchOption, ◌≢◌, slice_index}
 use Rattle.std.proofs.Math.Option.{some}
 use Rattle.rows.specs.declared.map.Map.{Map}
 use Rattle.rows.specs.declared.lookup.Rows.{Rows}
@@ -52,8 +52,8 @@ pub record ProcessesAt (s places second : List ℕ) (i n : ℕ) : Type 0 where
 abbrev pub NoProcesses : List ℕ → ℕ → Type 0
 NoProcesses s i = (ps : List Process) → length ps ≤ 64 → drop i s ≡ row_rs ps → AllFine ps → ⊥
 
-abbrev pub ProcessesEnd : List ℕ → List ℕ → List ℕ → ℕ → Option ℕ → Type 0
-ProcessesEnd s places second i r = MatchOption r (NoProcesses s i) (ProcessesAt s places second i)
+abbrev pub ProcessesEnd : List ℕ → List ℕ → List ℕ → ℕ → ℕ → Option (Unit {0}) → Type 0
+ProcessesEnd s places second i n r = MatchOption r (NoProcesses s i) (λ _. ProcessesAt s places second i n)
 
 -- These words are a program, short enough, and this is its map.
 pub record Filled (s : List ℕ) (m : Map) : Type 0 where

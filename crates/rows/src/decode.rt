@@ -5,7 +5,7 @@ ghost use Rattle.std.specs.Prelude.{◌≡◌, IfSome};
 ghost use Rattle.rows.specs.Decode.{instruction_at, call_at, term_at, point_at, head_at, Words, CallWords, TermWords, PointWords, HeadWords};
 
 // What a process does.
-#[derive(Clone, Copy)]
+#[derive(Clone, Copy, PartialEq, Eq, Debug)]
 pub enum Instruction {
     Stop,
     Give {
@@ -46,7 +46,7 @@ pub enum Instruction {
 
 // A process that is started or become: which one, where the conversations handed to it are listed and how many, and
 // where the expressions of its numbers begin and how many.
-#[derive(Clone, Copy)]
+#[derive(Clone, Copy, PartialEq, Eq, Debug)]
 pub struct Call {
     pub process: u32,
     pub conversations: usize,
@@ -56,14 +56,14 @@ pub struct Call {
 }
 
 // An expression: a number, a variable, or an operation on two expressions, the first of which begins at a place.
-#[derive(Clone, Copy)]
+#[derive(Clone, Copy, PartialEq, Eq, Debug)]
 pub enum Term {
     Number(u32),
     Variable(u32),
     Pair { operator: Operator, first: usize },
 }
 
-#[derive(Clone, Copy)]
+#[derive(Clone, Copy, PartialEq, Eq, Debug)]
 pub enum Operator {
     Sum,
     Difference,
@@ -72,7 +72,7 @@ pub enum Operator {
 }
 
 // What a point says, with the points at which the conversation goes on.
-#[derive(Clone, Copy)]
+#[derive(Clone, Copy, PartialEq, Eq, Debug)]
 pub enum PointKind {
     Over,
     Gives(u32),
@@ -83,7 +83,7 @@ pub enum PointKind {
 
 // The beginning of a process: where the points of its conversations are listed and how many, how many numbers are
 // handed in, how many variables it has, and where what it does begins.
-#[derive(Clone, Copy)]
+#[derive(Clone, Copy, PartialEq, Eq, Debug)]
 pub struct Head {
     pub talks: usize,
     pub count: usize,
@@ -127,14 +127,12 @@ pub fn instruction_at(p: &[u32], at: usize) -> Option<Instruction>
         }),
         6 => Some(Instruction::If { condition: at + 1 }),
         7 => Some(Instruction::Show { value: at + 1 }),
-        8 => match call_at(p, at) {
-            Some(call) => Some(Instruction::Start { call }),
-            None => None,
-        },
-        9 => match call_at(p, at) {
-            Some(call) => Some(Instruction::Become { call }),
-            None => None,
-        },
+        8 => Some(Instruction::Start {
+            call: call_at(p, at)?,
+        }),
+        9 => Some(Instruction::Become {
+            call: call_at(p, at)?,
+        }),
         _ => None,
     }
 }

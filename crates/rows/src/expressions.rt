@@ -10,19 +10,12 @@ pub(crate) fn expression_end(p: &[u32], at: usize, depth: u32) -> Option<usize>
     if depth == 0 {
         return None;
     }
-    match term_at(p, at) {
-        None => None,
-        Some(term) => match term {
-            Term::Number(_n) => Some(at + 2),
-            Term::Variable(_x) => Some(at + 2),
-            Term::Pair {
-                operator: _o,
-                first,
-            } => match expression_end(p, first, depth - 1) {
-                None => None,
-                Some(second) => expression_end(p, second, depth - 1),
-            },
-        },
+    match term_at(p, at)? {
+        Term::Number(_) | Term::Variable(_) => Some(at + 2),
+        Term::Pair { first, .. } => {
+            let second = expression_end(p, first, depth - 1)?;
+            expression_end(p, second, depth - 1)
+        }
     }
 }
 
@@ -31,11 +24,8 @@ pub(crate) fn expressions_end(p: &[u32], at: usize, count: u32, depth: u32) -> O
     ensures { ExpressionsEnd p.now at depth count result }
 {
     let mut here = at;
-    'each: for _k in 0..count {
-        match expression_end(p, here, depth) {
-            None => return None,
-            Some(next) => here = next,
-        }
+    for _ in 0..count {
+        here = expression_end(p, here, depth)?;
     }
     Some(here)
 }

@@ -42,24 +42,10 @@ pub fn conversation_in(what: Instruction) -> u32
     ensures { result ≡ conversation_in what }
 {
     match what {
-        Instruction::Give {
-            conversation,
-            value: _v,
-        } => conversation,
-        Instruction::Take {
-            conversation,
-            variable: _x,
-            next: _n,
-        } => conversation,
-        Instruction::Choose {
-            conversation,
-            way: _w,
-            next: _n,
-        } => conversation,
-        Instruction::Offer {
-            conversation,
-            first: _f,
-        } => conversation,
+        Instruction::Give { conversation, .. }
+        | Instruction::Take { conversation, .. }
+        | Instruction::Choose { conversation, .. }
+        | Instruction::Offer { conversation, .. } => conversation,
         _ => 0,
     }
 }

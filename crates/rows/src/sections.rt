@@ -1,5 +1,5 @@
 // The sections of the rows: points, other sides, processes; and whether the whole is a program.
-ghost use Rattle.std.specs.Prelude.{◌≡◌, ◌^◌, ◌<◌, ◌≤◌, length};
+ghost use Rattle.std.specs.Prelude.{◌≡◌, ◌^◌, ◌<◌, ◌≤◌, length, IfSome};
 ghost use Rattle.model.specs.Rows.{row_p};
 ghost use Rattle.rows.specs.Decode.{said};
 ghost use Rattle.rows.specs.Reading.{SameBelow};
@@ -8,7 +8,7 @@ ghost use Rattle.rows.specs.Sections.{PointsEnd, ProcessEnd, ProcessesEnd, Fills
 use crate::actions::action_end;
 use crate::decode::{PointKind, head_at, point_at};
 use crate::lookup::Rows;
-use crate::map::Map;
+use crate::map::{Map, Places};
 
 // How many words a point has.
 fn point_size(kind: PointKind) -> usize
@@ -16,29 +16,24 @@ fn point_size(kind: PointKind) -> usize
 {
     match kind {
         PointKind::Over => 1,
-        PointKind::Gives(_n) => 2,
-        PointKind::Takes(_n) => 2,
-        PointKind::Chooses(_n, _m) => 3,
-        PointKind::Offers(_n, _m) => 3,
+        PointKind::Gives(_) | PointKind::Takes(_) => 2,
+        PointKind::Chooses(..) | PointKind::Offers(..) => 3,
     }
 }
 
-// The place behind so many points that stand one after the other from a place on, if they do; the table then has the
-// place of each.
-fn points_end(p: &[u32], at: usize, count: usize, places: &mut [u16]) -> Option<usize>
-    requires table { count ≤ length places.old }
+// The place behind so many points that stand one after the other from a place on, if they do, with the place of each.
+fn points_end(p: &[u32], at: usize, count: usize, places: &mut Places<256>) -> Option<usize>
+    requires room { count ≤ 256 }
     requires small { length p.now < 2 ^ 16 }
-    ensures { PointsEnd p.now places.new at count result }
+    ensures places { PointsEnd p.now places.new.at at count result }
+    ensures counted { IfSome result (λ _. places.new.count ≡ count) }
 {
     let mut here = at;
-    'each: for k in 0..count {
-        match point_at(p, here) {
-            None => return None,
-            Some(kind) => {
-                places[k] = here as u16;
-                here += point_size(kind);
-            }
-        }
+    places.count = 0;
+    for _ in 0..count {
+        let kind = point_at(p, here)?;
+        places.add(here as u16)?;
+        here += point_size(kind);
     }
     Some(here)
 }
@@ -50,48 +45,28 @@ fn process_end(p: &[u32], at: usize, second: &mut [u16]) -> Option<usize>
     ensures ends { ProcessEnd p.now second.new at result }
     ensures before { SameBelow at second.old second.new }
 {
-    match head_at(p, at) {
-        None => None,
-        Some(head) => {
-            if head.count > 16 {
-                return None;
-            }
-            if head.variables > 16 {
-                return None;
-            }
-            if head.numbers > head.variables {
-                return None;
-            }
-            action_end(p, head.body, 256, 16 - head.count as u32, second)
-        }
+    let head = head_at(p, at)?;
+    if head.count > 16 || head.variables > 16 || head.numbers > head.variables {
+        return None;
     }
+    action_end(p, head.body, 256, 16 - head.count as u32, second)
 }
 
-// How many processes stand one after the other from a place to the end of the rows, if processes that keep the limits
-// do; the tables then have the place of each and the second ways of what it does.
-fn processes_end(p: &[u32], at: usize, places: &mut [u16], second: &mut [u16]) -> Option<usize>
+// The places of the processes that stand one after the other from a place to the end of the rows, if processes that
+// keep the limits do; the table then has the second ways of what they do.
+fn processes_end(p: &[u32], at: usize, places: &mut Places<64>, second: &mut [u16]) -> Option<()>
     requires begin { at ≤ length p.now }
-    requires room { 64 ≤ length places.old }
     requires table { length p.now ≤ length second.old }
     requires small { length p.now < 2 ^ 16 }
-    ensures { ProcessesEnd p.now places.new second.new at result }
+    ensures { ProcessesEnd p.now places.new.at second.new at places.new.count result }
 {
     let mut here = at;
-    let mut count = 0;
-    'each: while here < p.len() {
-        if count == 64 {
-            return None;
-        }
-        match process_end(p, here, second) {
-            None => return None,
-            Some(next) => {
-                places[count] = here as u16;
-                count += 1;
-                here = next;
-            }
-        }
+    places.count = 0;
+    while here < p.len() {
+        places.add(here as u16)?;
+        here = process_end(p, here, second)?;
     }
-    Some(count)
+    Some(())
 }
 
 // Fills in the map, if the words are a program.
@@ -110,10 +85,8 @@ fn fill(program: &[u32], map: &mut Map) -> Option<()>
     if words - sides < count {
         return None;
     }
-    let processes = processes_end(program, sides + count, &mut map.processes, &mut map.second)?;
-    map.point_count = count;
+    processes_end(program, sides + count, &mut map.processes, &mut map.second)?;
     map.sides = sides;
-    map.process_count = processes;
     Some(())
 }
 

@@ -5,8 +5,8 @@ use Rattle.rows.proofs.actions.+action_end.Given as goal
 abbrev pub decreases-action_end : goal.decreases-action_end
 decreases-action_end l = l.depth
 
-abbrev pub invariant-walk : goal.invariant-walk
-invariant-walk l = Walk l.p l.initial.second l.second l.at l.depth l.room l.here l.deep l.left
+abbrev pub invariant-loop-end : goal.invariant-loop-end
+invariant-loop-end l = Walk l.p l.initial.second l.second l.at l.depth l.room l.here l.deep l.left
 
-abbrev pub decreases-walk : goal.decreases-walk
-decreases-walk l = length l.p - l.here
+abbrev pub decreases-loop-end : goal.decreases-loop-end
+decreases-loop-end l = length l.p - l.here

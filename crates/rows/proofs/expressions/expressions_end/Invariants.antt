@@ -1,5 +1,5 @@
-use Rattle.rows.proofs.Sequences.{Between}
+use Rattle.rows.specs.Reading.{ExpressionsAt}
 use Rattle.rows.proofs.expressions.expressions_end.Given as goal
 
-abbrev pub invariant-each : goal.invariant-each
-invariant-each l = Between l.p l.at l.depth l._k l.here
+abbrev pub invariant-loop : goal.invariant-loop
+invariant-loop l = ExpressionsAt l.p l.at l.depth l.counter l.here

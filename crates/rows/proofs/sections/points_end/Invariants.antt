@@ -1,5 +1,6 @@
+use Rattle.std.proofs.Common.{◌≡◌}
 use Rattle.rows.specs.Sections.{PointsAt}
 use Rattle.rows.proofs.sections.points_end.Given as goal
 
-abbrev pub invariant-each : goal.invariant-each
-invariant-each l = PointsAt l.p l.places l.at l.k l.here
+abbrev pub invariant-loop : goal.invariant-loop
+invariant-loop l = record { found : PointsAt l.p l.places.at l.at l.counter l.here; counted : l.places.count ≡ l.counter }

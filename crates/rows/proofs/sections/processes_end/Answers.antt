@@ -1,21 +1,11 @@
-use Rattle.std.proofs.Common.{arith}
-use Rattle.rows.proofs.ProgramLaws.{processed_none, processed_more, processed_all, processed_full, processed_stuck}
+use Rattle.rows.proofs.ProgramLaws.{processed_more, processed_full, processed_stuck}
 use Rattle.rows.proofs.sections.processes_end.Goals as goal
 
-pub each-init : goal.each-init
-each-init c = processed_none c.args.p.now c.args.places.now c.args.second.now c.args.at (omega arith)
+pub returns-in_err-add : goal.returns-in_err-add
+returns-in_err-add c = rw c.from_residual.ensures (processed_full c.loop-here.invariant c.loop-here-test.true c.in_err-add.ensures)
 
-pub each-preserved : goal.each-preserved
-each-preserved c =
-    let f = c.each.invariant.few in
-    processed_more c.args.p.now c.each.places c.each.second c.args.at c.each.count c.each.here c.each.invariant
-    c.process_end.new.second c.in-Some.next (omega arith) (omega arith) c.in-Some.ensures.before c.in-Some.ensures.ends
+pub returns-in_err-here : goal.returns-in_err-here
+returns-in_err-here c = rw c.from_residual-in_err-here.ensures (processed_stuck c.loop-here.invariant c.loop-here-test.true c.in_err-here.ensures.ends)
 
-pub returns-then-count-eq64 : goal.returns-then-count-eq64
-returns-then-count-eq64 c = processed_full c.args.p.now c.each.places c.each.second c.args.at c.each.count c.each.here c.each.invariant (omega arith) (omega arith)
-
-pub returns-in-None : goal.returns-in-None
-returns-in-None c = processed_stuck c.args.p.now c.each.places c.each.second c.args.at c.each.count c.each.here c.each.invariant (omega arith) c.in-None.ensures.ends
-
-pub returns : goal.returns
-returns c = processed_all c.args.p.now c.each.places c.each.second c.args.at c.each.count c.each.here c.each.invariant (omega arith)
+pub loop-here-preserved : goal.loop-here-preserved
+loop-here-preserved c = processed_more c.loop-here.invariant c.loop-here.places.wide c.in_ok-add.ensures c.in_ok-here.ensures.before c.in_ok-here.ensures.ends

@@ -3,4 +3,4 @@ use Rattle.rows.proofs.Lookups.{no_other}
 use Rattle.rows.proofs.lookup.Rows.other.Goals as goal
 
 pub returns-then-i-self : goal.returns-then-i-self
-returns-then-i-self c g known = no_other c.args.self.now.words.now c.args.self.now.map.now g known c.args.point (omega arith)
+returns-then-i-self c g known = no_other known c.args.point (omega arith)

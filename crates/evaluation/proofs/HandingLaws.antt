@@ -1,5 +1,5 @@
 -- What the loops over handed numbers and conversations keep.
-use Rattle.std.proofs.Common.{◌≡◌, ℕ, zero, suc, ◌+◌, ◌<◌, ◌≤◌, max, ◌≢◌, List, [], ◌∷◌, ◌++◌, length, get_or, drop, set, None, Option as Maybe, sym, refl, ap, ◌∙◌, append_assoc, append-nil, add-one, arith, take, take-suc, take_all, ◌-◌, length-append, length-take, length-set, get_or-set_other, get_or-set_same}
+use Rattle.std.proofs.Common.{◌≡◌, ℕ, zero, suc, ◌+◌, ◌<◌, ◌≤◌, max, ◌≢◌, List, [], ◌∷◌, ◌++◌, length, get_or, drop, map, set, None, Option as Maybe, sym, refl, ap, ◌∙◌, append_assoc, append-nil, add-one, arith, take, take-suc, take_all, ◌-◌, length-append, length-take, length-set, get_or-set_other, get_or-set_same}
 use Rattle.std.proofs.lemmas.List.{get_or_append_left, get_or-append_right}
 use mathlib.Core.Option.{Option}
 use Rattle.model.specs.Program.{Expression, values}
@@ -8,10 +8,12 @@ use Rattle.model.specs.Rows.{row_e, row_es, deep_es}
 use Rattle.records.specs.declared.process.End.{End}
 use Rattle.records.specs.Tables.{table}
 use Rattle.records.specs.Records.{viewed}
-use Rattle.records.proofs.TableLaws.{table_same, table_snoc}
+use Rattle.records.proofs.TableLaws.{table_same, table_snoc, take_table, map_table}
 use Rattle.evaluation.specs.declared.expressions.Valued.{Valued}
+use Rattle.evaluation.specs.declared.handed.Numbers.{Numbers}
+use Rattle.evaluation.specs.declared.handed.Ends.{Ends}
 use Rattle.evaluation.specs.Values.{Evaluates}
-use Rattle.evaluation.specs.Handing.{NumbersAre, Numbered}
+use Rattle.evaluation.specs.Handing.{NumbersAre, Numbered, listed, ends_in, numbers_in}
 
 -- padding a table whose function is 0 behind it
 pub pad_table : (f : ℕ → ℕ) (b n m : ℕ) → ((j : ℕ) → b + n ≤ j → f j ≡ 0) → pad m (table f b n) ≡ table f b (max n m)
@@ -173,3 +175,15 @@ gathered_more cs es k got o there lt is g =
 
 pub gathered_all : (cs : List ℕ) (es : List (Option Endpoint)) (k : ℕ) (got : List (Maybe End)) → k ≡ length cs → Gathered cs es k got → table (λ j. viewed (get_or got j None)) 0 (length cs) ≡ ends_of es cs
 gathered_all cs es k got is g = ap (table (λ j. viewed (get_or got j None)) 0) (sym is) ∙ (g.are ∙ ap (ends_of es) (take_all k cs (omega arith)))
+
+-- the first of the numbers and ends that are handed on, and the words from a place on, as parts of lists
+pub numbers_part : (r : Numbers) (n : ℕ) → n ≤ length r.values → take n r.values ≡ numbers_in r n
+numbers_part r n h = take_table r.values 0 0 0 n (omega arith) ∙ table_same (λ k. get_or r.values k 0) (λ k. get_or r.values (0 + k) 0) 0 n (λ k p q. let z : 0 + k ≡ k = omega arith in ap (λ j. get_or r.values j 0) z)
+
+pub ends_part : (r : Ends) (n : ℕ) → n ≤ length r.ends → map viewed (take n r.ends) ≡ ends_in r n
+ends_part r n h =
+    ap (map viewed) (take_table r.ends None 0 0 n (omega arith)) ∙ (map_table viewed (λ k. get_or r.ends (0 + k) None) 0 n ∙
+    table_same (λ k. viewed (get_or r.ends k None)) (λ k. viewed (get_or r.ends (0 + k) None)) 0 n (λ k p q. let z : 0 + k ≡ k = omega arith in ap (λ j. viewed (get_or r.ends j None)) z))
+
+pub listed_part : (s : List ℕ) (at n : ℕ) → at + n ≤ length s → take n (drop at s) ≡ listed s at n
+listed_part s at n h = let z : at + 0 ≡ at = omega arith in ap (λ k. take n (drop k s)) (sym z) ∙ take_table s 0 at 0 n (omega arith)

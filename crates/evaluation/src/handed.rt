@@ -25,6 +25,7 @@ pub fn numbers_at(p: &[u32], at: usize, count: u32, depth: u32, vars: &[u32]) ->
     requires { count ≤ 16 }
     ensures numbers { Numbered p.now vars.now at depth count result }
     ensures within { at ≤ length p.now → result.next ≤ length p.now }
+    ensures wide { length result.values ≡ 16 }
 {
     let mut values = [0; 16];
     let mut next = at;
@@ -39,7 +40,8 @@ pub fn numbers_at(p: &[u32], at: usize, count: u32, depth: u32, vars: &[u32]) ->
 // The ends that the conversations of a process are which are listed.
 pub fn conversations_at(listed: &[u32], process: &Record) -> Ends
     requires { length listed.now ≤ 16 }
-    ensures { ends_in result (length listed.now) ≡ ends_of (record_of process.now).ends listed.now }
+    ensures ends { ends_in result (length listed.now) ≡ ends_of (record_of process.now).ends listed.now }
+    ensures wide { length result.ends ≡ 16 }
 {
     let mut ends = [None; 16];
     for (k, conversation) in listed.iter().enumerate() {

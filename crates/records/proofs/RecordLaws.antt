@@ -5,7 +5,7 @@ use Rattle.model.specs.Program.{or, put, bit}
 use Rattle.model.specs.Steps.{Endpoint, end}
 use Rattle.records.specs.Tables.{table}
 use Rattle.records.specs.Records.{Record, end_of, vars_of, ends_of, record_of, record_at, Kept, assigned, cleared, with_end, with_number}
-use Rattle.records.proofs.TableLaws.{table_same, table_put, table_snoc, nth_table, nth_table_past, length_table}
+use Rattle.records.proofs.TableLaws.{table_same, table_put, table_snoc, nth_table, nth_table_past, length_table, take_table}
 
 -- the words of the variables decide them, and those of the ends decide these
 vars_same : (w w' : List ℕ) → get_or w' 4 0 ≡ get_or w 4 0 → ((k : ℕ) → k < 16 → get_or w' (16 + k) 0 ≡ get_or w (16 + k) 0) → vars_of w' ≡ vars_of w
@@ -140,17 +140,8 @@ end_some w c h ne = go (get_or w (48 + c) 0) ne ∙ end_there w c h
     go : (k : ℕ) → (k ≡ 0 → ⊥) → some (record { line = get_or w (32 + c) 0; side = bit (not (eqb k 1)) }) ≡ end_of (get_or w (32 + c) 0) k
     go k ne = grind arith
 
--- a table of words is a part of the list
-take_table : (s : List ℕ) (b p n : ℕ) → b + p + n ≤ length s → take n (drop (b + p) s) ≡ table (λ k. get_or s (b + k) 0) p n
-take_table s b p zero h = refl
-take_table s b p (suc n) h =
-    let e : drop (b + p) s ≡ get_or s (b + p) 0 ∷ drop (suc (b + p)) s = drop-cons s (b + p) 0 (omega arith) in
-    let z : suc (b + p) ≡ b + suc p = omega arith in
-    let t = take_table s b (suc p) n (omega arith) in
-    ap (take (suc n)) e ∙ ap (λ l. get_or s (b + p) 0 ∷ l) (ap (λ k. take n (drop k s)) z ∙ t)
-
 pub vars_part : (w : List ℕ) (n : ℕ) → n ≡ length (vars_of w) → 16 + n ≤ length w → take n (drop 16 w) ≡ vars_of w
-vars_part w n is room = take_table w 16 0 n (omega arith) ∙ ap (table (λ k. get_or w (16 + k) 0) 0) (is ∙ vars_long w)
+vars_part w n is room = take_table w 0 16 0 n (omega arith) ∙ ap (table (λ k. get_or w (16 + k) 0) 0) (is ∙ vars_long w)
 
 -- Record i was written: it is what its words are, all others are as they were.
 pub kept_set : (s : List (List ℕ)) (i : ℕ) (w : List ℕ) (r : Record) → i < length s → record_of w ≡ r → Kept s (set s i w) i r

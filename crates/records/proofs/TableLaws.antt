@@ -1,5 +1,5 @@
 -- Laws of tables: their length and elements, tables that agree, one element changed, one more at the end.
-use Rattle.std.proofs.Common.{◌≡◌, ℕ, zero, suc, ◌+◌, ◌<◌, ◌≤◌, [], ◌∷◌, ◌++◌, length, sym, refl, ap, ◌∙◌, add-zero, arith}
+use Rattle.std.proofs.Common.{◌≡◌, ℕ, zero, suc, ◌+◌, ◌<◌, ◌≤◌, List, [], ◌∷◌, ◌++◌, length, get_or, take, drop, map, sym, refl, ap, ◌∙◌, add-zero, drop-cons, arith}
 use mathlib.Core.Option.{some, none}
 use Rattle.model.specs.Program.{nth, put}
 use Rattle.records.specs.Tables.{table}
@@ -48,3 +48,16 @@ table_snoc f b (suc n) =
     let e : suc b + n ≡ b + suc n = omega arith in
     let t = table_snoc f (suc b) n in
     cc
+
+-- a part of a list is a table of its elements
+pub take_table : {A : Type 0} (s : List A) (d : A) (b p n : ℕ) → b + p + n ≤ length s → take n (drop (b + p) s) ≡ table (λ k. get_or s (b + k) d) p n
+take_table s d b p zero h = refl
+take_table s d b p (suc n) h =
+    let e : drop (b + p) s ≡ get_or s (b + p) d ∷ drop (suc (b + p)) s = drop-cons s (b + p) d (omega arith) in
+    let z : suc (b + p) ≡ b + suc p = omega arith in
+    let t = take_table s d b (suc p) n (omega arith) in
+    ap (take (suc n)) e ∙ ap (λ l. get_or s (b + p) d ∷ l) (ap (λ k. take n (drop k s)) z ∙ t)
+
+pub map_table : {A B : Type 0} (g : A → B) (f : ℕ → A) (b n : ℕ) → map g (table f b n) ≡ table (λ k. g (f k)) b n
+map_table g f b zero = refl
+map_table g f b (suc n) = ap (λ l. g (f b) ∷ l) (map_table g f (suc b) n)

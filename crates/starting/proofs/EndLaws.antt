@@ -1,10 +1,13 @@
 -- The ends of a starter and of the process that it starts are those that the starter had, and those of the new line.
-use Rattle.std.proofs.Common.{◌≡◌, ℕ, zero, suc, ◌+◌, ◌⊎◌, List, [], ◌∷◌, ◌++◌, length, get_or, drop, refl, ap, ◌∙◌, inl, inr, arith}
+use Rattle.std.proofs.Common.{◌≡◌, ℕ, zero, suc, ◌+◌, ◌⊎◌, List, [], ◌∷◌, ◌++◌, length, get_or, take, drop, ◌-◌, ◌≤◌, sym, refl, ap, ◌∙◌, inl, inr, arith}
 use mathlib.Core.Option.{Option, some, none}
 use Rattle.model.specs.Program.{nth, put}
 use Rattle.model.specs.Steps.{Endpoint, end, ends_of, without, own_end, far_end}
 use Rattle.records.specs.Tables.{table}
-use Rattle.evaluation.specs.Handing.{listed}
+use Rattle.records.proofs.TableLaws.{length_table}
+use Rattle.evaluation.specs.declared.handed.Ends.{Ends}
+use Rattle.evaluation.specs.Handing.{listed, ends_in}
+use Rattle.evaluation.proofs.HandingLaws.{listed_part}
 use Rattle.rows.proofs.Places.{word_at, rest_at}
 use Rattle.turns.specs.Holding.{Below}
 
@@ -68,3 +71,12 @@ nth_snoc_other [] v zero ne = absurd (ne refl)
 nth_snoc_other [] v (suc k) ne = refl
 nth_snoc_other (x ∷ xs) v zero ne = refl
 nth_snoc_other (x ∷ xs) v (suc k) ne = nth_snoc_other xs v k (λ e. ne (omega arith))
+
+-- the conversations that are listed, as a part of the words
+pub listed_slice : (s : List ℕ) (at n : ℕ) → at + n ≤ length s → take (at + n - at) (drop at s) ≡ listed s at n
+listed_slice s at n h = let z : at + n - at ≡ n = omega arith in ap (λ k. take k (drop at s)) z ∙ listed_part s at n h
+
+pub handed_ends : (s l : List ℕ) (es : List (Option Endpoint)) (r : Ends) (at n : ℕ) → l ≡ listed s at n → ends_in r (length l) ≡ ends_of es l → ends_in r n ≡ ends_of es (listed s at n)
+handed_ends s l es r at n is h =
+    let e : length l ≡ n = ap length is ∙ length_table (λ k. get_or s (at + k) 0) 0 n in
+    ap (ends_in r) (sym e) ∙ (h ∙ ap (ends_of es) is)

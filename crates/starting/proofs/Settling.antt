@@ -13,7 +13,7 @@ use Rattle.turns.proofs.Found.{standing}
 use Rattle.starting.specs.Heads.{HeadIs}
 use Rattle.starting.proofs.StartTurns.{StartIs, BecomeIs, start_is, become_is}
 
-module _ (s m procs : List ℕ) (i : ℕ) (g : Program) (call : Call) (w : Worker) (h : Holds s m (record_at procs i) w) (head : Head) (f : HeadIs s m g call.process head) where
+module _ (s m : List ℕ) (procs : List (List ℕ)) (i : ℕ) (g : Program) (call : Call) (w : Worker) (h : Holds s m (record_at procs i) w) (head : Head) (f : HeadIs s m g call.process head) where
   module _ (d : Doing s procs i (Start call)) where
     it : StartIs s call w h.behind
     it = start_is s (record_at procs i).place h.behind call w w.todo refl (standing h (record_at procs i).place (Start call) (Start call) refl d.is refl)

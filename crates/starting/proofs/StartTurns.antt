@@ -82,7 +82,7 @@ pub become_is : (s : List ℕ) (p : ℕ) (x : List ℕ) (call : Call) (w : Worke
 become_is s p x call w a e (at_become {f = f} {cs = cs} {es = es} c) =
     record { cs = cs; es = es; todo = e ∙ ap (λ k. become k cs es) (sym c.process); calls = subst (λ k. CallIs s call k cs es x) (sym c.process) c }
 
-module _ (s m procs lines : List ℕ) (count i : ℕ) (g : Program) (a : Configuration) (q : List ℕ) (b : Before s m g procs lines count i a q) (call : Call) (left : ℕ) (is_left : left ≡ (record_at procs i).left) where
+module _ (s m : List ℕ) (procs lines : List (List ℕ)) (count i : ℕ) (g : Program) (a : Configuration) (q : List ℕ) (b : Before s m g procs lines count i a q) (call : Call) (left : ℕ) (is_left : left ≡ (record_at procs i).left) where
   own : Runs a.workers i
   own = b.scheduled.ready i (in_here i q)
 
@@ -95,11 +95,11 @@ module _ (s m procs lines : List ℕ) (count i : ℕ) (g : Program) (a : Configu
   ended_holds : Holds s m (ended (record_at procs i) spent) (halted own.worker spent)
   ended_holds = record { behind = holds.behind; rows = holds.rows; seconds = holds.seconds; nested = holds.nested; vars = holds.vars; ends = holds.ends; left = holds.left; state = refl }
 
-  spends : (procs' : List ℕ) → Kept procs procs' i (ended (record_at procs i) spent) → Alone g a.next own.worker (halted own.worker spent) [] [] → After s m g procs procs' lines count count a q [] 0
+  spends : (procs' : List (List ℕ)) → Kept procs procs' i (ended (record_at procs i) spent) → Alone g a.next own.worker (halted own.worker spent) [] [] → After s m g procs procs' lines count count a q [] 0
   spends procs' k al = lone_off s m procs lines count i g a q b own.worker own.there own.runs procs' (ended (record_at procs i) spent) k (halted own.worker spent) ended_holds
       (b.holding.ends i own.worker own.there) al (clash refl) (omega arith)
 
-  missing : (procs' : List ℕ) → procs' ≡ procs → wish own.worker.todo ≡ none → ((line : ℕ) (w' : Worker) (ws : List Worker) (ns : List ℕ) → Alone g line own.worker w' ws ns → ⊥) → After s m g procs procs' lines count count a q [] 0
+  missing : (procs' : List (List ℕ)) → procs' ≡ procs → wish own.worker.todo ≡ none → ((line : ℕ) (w' : Worker) (ws : List Worker) (ns : List ℕ) → Alone g line own.worker w' ws ns → ⊥) → After s m g procs procs' lines count count a q [] 0
   missing procs' e nowish lone = stays s m procs lines count i g a q b own.worker own.there own.runs procs' lines e (record {
     noted = λ d x y o. absurd (some_none o nowhere);
     lone = λ line w' ws ns x. lone line w' ws ns;
@@ -116,10 +116,10 @@ module _ (s m procs lines : List ℕ) (count i : ℕ) (g : Program) (a : Configu
     it : StartIs s call own.worker holds.behind
     it = start_is s (record_at procs i).place holds.behind call own.worker own.worker.todo refl (standing holds (record_at procs i).place (Start call) (Start call) refl d.is refl)
 
-    pub start_spent : (procs' : List ℕ) → left ≡ 0 → Kept procs procs' i (ended (record_at procs i) spent) → After s m g procs procs' lines count count a q [] 0
+    pub start_spent : (procs' : List (List ℕ)) → left ≡ 0 → Kept procs procs' i (ended (record_at procs i) spent) → After s m g procs procs' lines count count a q [] 0
     start_spent procs' z k = spends procs' k (starts_spent call.process it.cs it.es it.rest it.todo (sym left_is ∙ z))
 
-    pub start_missing : (procs' : List ℕ) → procs' ≡ procs → (left ≡ 0 → ⊥) → nth g.procs call.process ≡ none → After s m g procs procs' lines count count a q [] 0
+    pub start_missing : (procs' : List (List ℕ)) → procs' ≡ procs → (left ≡ 0 → ⊥) → nth g.procs call.process ≡ none → After s m g procs procs' lines count count a q [] 0
     start_missing procs' e ne none' = missing procs' e (ap wish it.todo) (λ line w' ws ns al. lone_start call.process it.cs it.es it.rest it.todo none' (λ z. ne (left_is ∙ z)) al)
 
     module _ (head : Head) (h : HeadIs s m g call.process head) (some_left : left ≡ 0 → ⊥) where
@@ -156,7 +156,7 @@ module _ (s m procs lines : List ℕ) (count i : ℕ) (g : Program) (a : Configu
       start_many_own n e z = cramming (inr (inr (let f = ap length holds.ends in omega arith)))
 
       -- the new process and its starter
-      module _ (numbers : Numbers) (ends : Ends) (vs : List ℕ) (p1 p2 : List ℕ) (line variables : ℕ) (is_vs : vs ≡ (record_at procs i).vars) (nums : Numbered s vs call.numbers 256 call.expressions numbers)
+      module _ (numbers : Numbers) (ends : Ends) (vs : List ℕ) (p1 p2 : List (List ℕ)) (line variables : ℕ) (is_vs : vs ≡ (record_at procs i).vars) (nums : Numbered s vs call.numbers 256 call.expressions numbers)
           (handed : ends_in ends call.count ≡ ends_of (record_at procs i).ends (listed s call.conversations call.count)) (is_line : line ≡ count - 1) (is_variables : variables ≡ max call.expressions head.variables)
           (k1 : Kept procs p1 count (begun_with head.body (left - 1) (some (far_end line) ∷ ends_in ends call.count) (numbers_in numbers variables)))
           (k2 : Kept p1 p2 i (released (record_at p1 i) (listed s call.conversations call.count) line (left - 1) numbers.next)) where
@@ -312,10 +312,10 @@ module _ (s m procs lines : List ℕ) (count i : ℕ) (g : Program) (a : Configu
     its : BecomeIs s call own.worker holds.behind
     its = become_is s (record_at procs i).place holds.behind call own.worker own.worker.todo refl (standing holds (record_at procs i).place (Become call) (Become call) refl d.is refl)
 
-    pub become_spent : (procs' : List ℕ) → left ≡ 0 → Kept procs procs' i (ended (record_at procs i) spent) → After s m g procs procs' lines count count a q [] 0
+    pub become_spent : (procs' : List (List ℕ)) → left ≡ 0 → Kept procs procs' i (ended (record_at procs i) spent) → After s m g procs procs' lines count count a q [] 0
     become_spent procs' z k = spends procs' k (becomes_spent call.process its.cs its.es its.todo (sym left_is ∙ z))
 
-    pub become_missing : (procs' : List ℕ) → procs' ≡ procs → (left ≡ 0 → ⊥) → nth g.procs call.process ≡ none → After s m g procs procs' lines count count a q [] 0
+    pub become_missing : (procs' : List (List ℕ)) → procs' ≡ procs → (left ≡ 0 → ⊥) → nth g.procs call.process ≡ none → After s m g procs procs' lines count count a q [] 0
     become_missing procs' e ne none' = missing procs' e (ap wish its.todo) (λ line w' ws ns al. lone_become call.process its.cs its.es its.todo none' (λ z. ne (left_is ∙ z)) al)
 
     module _ (head : Head) (h : HeadIs s m g call.process head) (some_left : left ≡ 0 → ⊥) where
@@ -331,10 +331,10 @@ module _ (s m procs lines : List ℕ) (count i : ℕ) (g : Program) (a : Configu
       pub become_many_numbers : 16 < call.expressions → Oddness g a
       become_many_numbers z = become_cramming (inr (let e = its.calls.expressions in omega arith))
 
-      become_as : {p1 : List ℕ} → After s m g procs p1 lines count count a (i ∷ q) (only_first i []) 1 → After s m g procs p1 lines count count a (i ∷ q) [] 1
+      become_as : {p1 : List (List ℕ)} → After s m g procs p1 lines count count a (i ∷ q) (only_first i []) 1 → After s m g procs p1 lines count count a (i ∷ q) [] 1
       become_as t = record { now = t.now; steps = t.steps; holding = t.holding; scheduled = t.scheduled; shown = t.shown ∙ ap (λ l. a.shown ++ l) (only_first_none i); falls = t.falls }
 
-      pub become_begun : (numbers : Numbers) (ends : Ends) (vs : List ℕ) (p1 : List ℕ) (variables : ℕ) → vs ≡ (record_at procs i).vars → Numbered s vs call.numbers 256 call.expressions numbers →
+      pub become_begun : (numbers : Numbers) (ends : Ends) (vs : List ℕ) (p1 : List (List ℕ)) (variables : ℕ) → vs ≡ (record_at procs i).vars → Numbered s vs call.numbers 256 call.expressions numbers →
           ends_in ends call.count ≡ ends_of (record_at procs i).ends (listed s call.conversations call.count) → variables ≡ max call.expressions head.variables →
           Kept procs p1 i (begun_with head.body (left - 1) (ends_in ends call.count) (numbers_in numbers variables)) → After s m g procs p1 lines count count a (i ∷ q) [] 1
       become_begun numbers ends vs p1 variables is_vs nums handed is_variables k =

@@ -1,8 +1,5 @@
-use Rattle.starting.proofs.HeadLaws.{head_of, head_within}
+use Rattle.starting.proofs.HeadLaws.{head_of}
 use Rattle.starting.proofs.heads.process_at.Goals as goal
 
-pub returns : goal.returns
-returns c = record {
-  is = head_of c.args.p.now c.args.map.now c.args.number c.process_of.result c.process_of.ensures.is;
-  within = head_within c.args.p.now c.process_of.result c.process_of.ensures.within;
-}
+pub returns-clause-is : goal.returns-clause-is
+returns-clause-is c = head_of c.args.rows.now.words.now c.args.rows.now.map.now c.args.number c.process.result c.process.ensures.is

@@ -10,21 +10,19 @@ use Rattle.rows.proofs.Instructions.{Standing, at_give, at_take, at_choose, at_o
 use Rattle.model.specs.Program.{nth, Program, Action}
 use Rattle.model.specs.Steps.{Worker, Configuration}
 use Rattle.records.specs.Records.{record_at}
-use Rattle.turns.specs.declared.turn.Turn.{Turn}
-use Rattle.turns.specs.declared.turn.Turn.TheVariants.{On, Shown, Both, Started, Off, Crowded, Odd}
 use Rattle.turns.specs.Scheduling.{wish}
-use Rattle.turns.specs.Turning.{Before, Unwritten, Goes}
+use Rattle.turns.specs.Turning.{Before}
 use Rattle.turns.specs.Meeting.{Doing}
 use Rattle.turns.proofs.Queue.{in_here}
 use Rattle.turns.proofs.Found.{standing}
 
-pub doing : (s procs : List ℕ) (i at : ℕ) (k l : Instruction) → at ≡ (record_at procs i).place → Some k ≡ instruction_at s at → k ≡ l → Words s at k → Doing s procs i l
+pub doing : (s : List ℕ) (procs : List (List ℕ)) (i at : ℕ) (k l : Instruction) → at ≡ (record_at procs i).place → Some k ≡ instruction_at s at → k ≡ l → Words s at k → Doing s procs i l
 doing s procs i at k l e is kind words = record {
   is = ap Some (sym kind) ∙ (is ∙ ap (instruction_at s) e);
   words = subst (λ (p : ℕ). Words s p l) e (subst (Words s at) kind words);
 }
 
-module _ (s m procs lines : List ℕ) (count i : ℕ) (g : Program) (a : Configuration) (q : List ℕ) (b : Before s m g procs lines count i a q) (at : ℕ) (is_at : at ≡ (record_at procs i).place) where
+module _ (s m : List ℕ) (procs lines : List (List ℕ)) (count i : ℕ) (g : Program) (a : Configuration) (q : List ℕ) (b : Before s m g procs lines count i a q) (at : ℕ) (is_at : at ≡ (record_at procs i).place) where
   pub nothing_there : None ≡ instruction_at s at → ⊥
   nothing_there n =
       let w = b.scheduled.ready i (in_here i q) in
@@ -57,13 +55,3 @@ nothing_else s at (If v) n e a b c d f g = c v refl
 nothing_else s at (Show v) n e a b c d f g = d v refl
 nothing_else s at (Start x) n e a b c d f g = f x refl
 nothing_else s at (Become x) n e a b c d f g = g x refl
-
--- who goes on is not odd
-pub goes_unwritten : (procs procs' : List ℕ) (t : Turn) → Goes t → Unwritten procs procs' t
-goes_unwritten procs procs' On h = tt
-goes_unwritten procs procs' (Shown v) h = tt
-goes_unwritten procs procs' (Both j) h = absurd h
-goes_unwritten procs procs' Started h = absurd h
-goes_unwritten procs procs' Off h = absurd h
-goes_unwritten procs procs' Crowded h = absurd h
-goes_unwritten procs procs' Odd h = absurd h

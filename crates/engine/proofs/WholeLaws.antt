@@ -1,16 +1,23 @@
 -- A whole run, from how it was set up to how it ended.
-use Rattle.std.proofs.Common.{◌≡◌, ℕ, ◌<◌, Bool, true, false, List, [], length, sym, refl, ap, ◌∙◌, arith}
+use Rattle.std.proofs.Common.{◌≡◌, ℕ, ◌<◌, Bool, true, false, List, [], length, Ok, Err, sym, refl, ap, ◌∙◌, subst, arith}
 use mathlib.Core.Option.{some}
 use Rattle.model.specs.Program.{nth, Program}
 use Rattle.model.specs.Steps.{State, running, spent, Configuration, alone, together, here, begin}
 use Rattle.model.specs.Theorems.{Still}
+use Rattle.model.specs.Rows.{Reads}
+use Rattle.rows.specs.declared.map.Map.{Map}
+use Rattle.rows.specs.Mapped.{Mapped}
+use Rattle.turns.specs.declared.turn.Trouble.{Trouble}
+use Rattle.turns.specs.declared.turn.Trouble.TheVariants.{Crowded, Odd}
 use Rattle.turns.specs.Holding.{Holding}
 use Rattle.model.proofs.Lists.{nth_below, nth_there}
 use Rattle.engine.specs.Outs.{SomeAt}
-use Rattle.engine.specs.Ending.{Finished, TooMany}
-use Rattle.engine.specs.Whole.{SomeWorker, AtRest}
+use Rattle.engine.specs.Ending.{Finished, TooMany, Endings}
+use Rattle.engine.specs.declared.step.Run.{Run}
+use Rattle.engine.specs.Running.{Running}
+use Rattle.engine.specs.Whole.{SomeWorker, AtRest, RunsTo}
 
-module _ (s m procs : List ℕ) (count : ℕ) (a : Configuration) (h : Holding s m procs count a) where
+module _ (s m : List ℕ) (procs : List (List ℕ)) (count : ℕ) (a : Configuration) (h : Holding s m procs count a) where
   pub some_worker : (k : State) (b : Bool) → SomeAt procs count k b → SomeWorker a k b
   some_worker k true t =
       let l = h.many in
@@ -21,7 +28,7 @@ module _ (s m procs : List ℕ) (count : ℕ) (a : Configuration) (h : Holding s
       let x = nth_below a.workers i n in
       out i (omega arith) ((h.each i w n).state ∙ e)
 
-pub at_rest : (s m : List ℕ) (g : Program) (most turns : ℕ) (old procs shown : List ℕ) (count total : ℕ) (out waits : Bool) → Finished s m g most old procs shown count total (begin g turns) → SomeAt procs count spent out → SomeAt procs count running waits →
+pub at_rest : (s m : List ℕ) (g : Program) (most turns : ℕ) (old : List ℕ) (procs : List (List ℕ)) (shown : List ℕ) (count total : ℕ) (out waits : Bool) → Finished s m g most old procs shown count total (begin g turns) → SomeAt procs count spent out → SomeAt procs count running waits →
     AtRest g most turns old shown count total out waits
 at_rest s m g most turns old procs shown count total out waits f x y = record {
   now = f.now;
@@ -57,3 +64,17 @@ at_rest_empty g most turns shown e = record {
 
 pub at_once : (g : Program) (most turns : ℕ) → most < length (begin g turns).workers → TooMany g most (begin g turns)
 at_once g most turns h = record { now = begin g turns; steps = here; many = h }
+
+-- a run that does not come to its end
+module _ (s : List ℕ) (m : Map) (most turns : ℕ) (shown shown' : List ℕ) (r r' : Run) (room : length r.processes.now ≡ most)
+    (start : (g : Program) → Reads s g → Mapped s g m → Running s m.second g shown shown r (begin g turns)) where
+  pub runs_err : (e : Trouble) → Endings s m shown shown' r r' (Err e) → RunsTo s m most turns shown shown' (Err e)
+  runs_err Crowded t = λ g reads mapped. subst (λ (n : ℕ). TooMany g n (begin g turns)) (t.0 ∙ room) (t.1 g (begin g turns) shown reads mapped (start g reads mapped))
+  runs_err Odd t = λ g reads mapped. t.1 g (begin g turns) shown reads mapped (start g reads mapped)
+
+  pub runs_ok : Endings s m shown shown' r r' (Ok tt) → (out waits : Bool) → SomeAt r'.processes.now r'.count spent out → SomeAt r'.processes.now r'.count running waits →
+      (g : Program) → Reads s g → Mapped s g m → AtRest g most turns shown shown' r'.count r'.total out waits
+  runs_ok t out waits x y g reads mapped =
+      let f = t.1 g (begin g turns) shown reads mapped (start g reads mapped) in
+      at_rest s m.second g most turns shown r'.processes.now shown' r'.count r'.total out waits
+      (subst (λ (n : ℕ). Finished s m.second g n shown r'.processes.now shown' r'.count r'.total (begin g turns)) (t.0 ∙ room) f) x y

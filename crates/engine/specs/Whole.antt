@@ -1,5 +1,5 @@
 -- What a whole run promises.
-use Rattle.std.specs.Prelude.{◌≡◌, ℕ, ◌≤◌, Bool, true, false, List, length, ◌≢◌}
+use Rattle.std.specs.Prelude.{◌≡◌, ℕ, ◌≤◌, Bool, true, false, List, length, Result, Ok, Err, ◌≢◌}
 use Rattle.std.proofs.Math.Option.{some}
 use Rattle.model.specs.Program.{nth, Program}
 use Rattle.model.specs.Steps.{State, running, spent, Worker, Configuration, Steps, begin}
@@ -7,9 +7,10 @@ use Rattle.model.specs.Rows.{Reads}
 use Rattle.model.specs.Theorems.{Still}
 use Rattle.rows.specs.declared.map.Map.{Map}
 use Rattle.rows.specs.Mapped.{Mapped}
-use Rattle.engine.specs.declared.whole.Outcome.{Outcome}
-use Rattle.engine.specs.declared.whole.Outcome.TheVariants.{Rest, Crowded, Odd}
-use Rattle.engine.specs.Running.{overlay, counted}
+use Rattle.turns.specs.declared.turn.Trouble.{Trouble}
+use Rattle.turns.specs.declared.turn.Trouble.TheVariants.{Crowded, Odd}
+use Rattle.engine.specs.declared.whole.Rest.{Rest}
+use Rattle.engine.specs.Shown.{overlay, counted}
 use Rattle.engine.specs.Ending.{TooMany, Strange}
 
 -- the words are the writing of some program, and the map is its map
@@ -35,7 +36,7 @@ pub record AtRest (g : Program) (most turns : ℕ) (old shown : List ℕ) (count
   pub spent_is : SomeWorker now spent out
   pub waiting_is : SomeWorker now running waits
 
-abbrev pub RunsTo : List ℕ → Map → ℕ → ℕ → List ℕ → List ℕ → Outcome → Type 0
-RunsTo s m most turns old shown (Rest count total out waits) = (g : Program) → Reads s g → Mapped s g m → AtRest g most turns old shown count total out waits
-RunsTo s m most turns old shown Crowded = (g : Program) → Reads s g → Mapped s g m → TooMany g most (begin g turns)
-RunsTo s m most turns old shown Odd = (g : Program) → Reads s g → Mapped s g m → Strange g (begin g turns)
+abbrev pub RunsTo : List ℕ → Map → ℕ → ℕ → List ℕ → List ℕ → Result Rest Trouble → Type 0
+RunsTo s m most turns old shown (Ok r) = (g : Program) → Reads s g → Mapped s g m → AtRest g most turns old shown r.count r.total r.spent r.waiting
+RunsTo s m most turns old shown (Err Crowded) = (g : Program) → Reads s g → Mapped s g m → TooMany g most (begin g turns)
+RunsTo s m most turns old shown (Err Odd) = (g : Program) → Reads s g → Mapped s g m → Strange g (begin g turns)

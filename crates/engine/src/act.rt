@@ -1,42 +1,38 @@
 // One turn of a process, whatever it is at.
-ghost use Rattle.std.specs.Prelude.{◌≡◌, ◌+◌, ◌*◌, ◌^◌, ◌<◌, ◌≤◌, length, None};
+ghost use Rattle.std.specs.Prelude.{◌≡◌, ◌^◌, ◌<◌, ◌≤◌, length, None};
 ghost use Rattle.rows.specs.Decode.{talk_at};
 ghost use Rattle.records.specs.Records.{record_at};
 ghost use Rattle.starting.specs.Begins.{Begins};
 ghost use Rattle.turns.specs.Turning.{Turns, Unwritten};
 
-use records::process::place;
+use queues::lines::Line;
+use records::process::{Record, place};
 use rows::decode::{Instruction, instruction_at};
-use rows::map::Map;
+use rows::lookup::Rows;
 use rows::narrow::{conversation_in, talk_at};
 use starting::start::{start, turn_into};
 use turns::alone::{assign, fork, show, stop};
 use turns::communicate::communicate;
-use turns::turn::Turn;
+use turns::turn::{Trouble, Turn};
 
-// A turn of process i, of so many, where there may be `most`.
+// A turn of process i, of so many.
 pub fn act(
-    p: &[u32],
-    map: &Map,
-    processes: &mut [u32],
-    lines: &mut [u32],
-    most: usize,
+    rows: &Rows<'_>,
+    processes: &mut [Record],
+    lines: &mut [Line],
     count: usize,
     i: u32,
-) -> Turn
-    requires words { length p.now ≤ 16384 }
+) -> Result<Turn, Trouble>
     requires there { i < count }
-    requires fits { count ≤ most }
-    requires code { most < 2 ^ 32 }
-    requires records { 64 * most ≤ length processes.old }
-    requires sides { 2 * most ≤ length lines.old }
-    ensures turns { Turns p.now map.now processes.old lines.old processes.new lines.new most count i result }
+    requires fits { count ≤ length processes.old }
+    requires code { length processes.old < 2 ^ 32 }
+    requires sides { length processes.old ≤ length lines.old }
+    ensures turns { Turns rows.now.words.now rows.now.map.now processes.old lines.old processes.new lines.new (length processes.old) count i result }
     ensures unwritten { Unwritten processes.old processes.new result }
 {
-    match talk_at(p, place(processes, i as usize)) {
+    match talk_at(rows.words, place(&processes[i as usize])) {
         Some(what) => communicate(
-            p,
-            map,
+            rows,
             processes,
             lines,
             count,
@@ -44,33 +40,36 @@ pub fn act(
             i,
             conversation_in(what),
         ),
-        None => act_alone(p, map, processes, most, count, i),
+        None => act_alone(rows, processes, count, i),
     }
 }
 
 // A turn of process i, which waits for nobody.
-fn act_alone(p: &[u32], map: &Map, processes: &mut [u32], most: usize, count: usize, i: u32) -> Turn
-    requires words { length p.now ≤ 16384 }
+fn act_alone(
+    rows: &Rows<'_>,
+    processes: &mut [Record],
+    count: usize,
+    i: u32,
+) -> Result<Turn, Trouble>
     requires there { i < count }
-    requires fits { count ≤ most }
-    requires code { most < 2 ^ 32 }
-    requires records { 64 * most ≤ length processes.old }
-    requires alone { None ≡ talk_at p.now (record_at processes.old i).place }
-    ensures begins { Begins p.now map.now processes.old processes.new most count i result }
+    requires fits { count ≤ length processes.old }
+    requires code { length processes.old < 2 ^ 32 }
+    requires alone { None ≡ talk_at rows.now.words.now (record_at processes.old i).place }
+    ensures begins { Begins rows.now.words.now rows.now.map.now processes.old processes.new (length processes.old) count i result }
     ensures unwritten { Unwritten processes.old processes.new result }
 {
-    match instruction_at(p, place(processes, i as usize)) {
-        None => Turn::Off,
-        Some(what) => match what {
-            Instruction::Stop => stop(p, map, processes, count, i),
-            Instruction::Set { variable, value } => assign(
-                p, map, processes, count, i, variable, value,
-            ),
-            Instruction::If { condition } => fork(p, map, processes, count, i, condition),
-            Instruction::Show { value } => show(p, map, processes, count, i, value),
-            Instruction::Start { call } => start(p, map, processes, most, count, i, call),
-            Instruction::Become { call } => turn_into(p, map, processes, most, count, i, call),
-            _ => Turn::Off,
-        },
+    let Some(what) = instruction_at(rows.words, place(&processes[i as usize])) else {
+        return Ok(Turn::Off);
+    };
+    match what {
+        Instruction::Stop => Ok(stop(rows, processes, count, i)),
+        Instruction::Set { variable, value } => Ok(assign(
+            rows, processes, count, i, variable, value,
+        )),
+        Instruction::If { condition } => Ok(fork(rows, processes, count, i, condition)),
+        Instruction::Show { value } => Ok(show(rows, processes, count, i, value)),
+        Instruction::Start { call } => start(rows, processes, count, i, call),
+        Instruction::Become { call } => turn_into(rows, processes, count, i, call),
+        _ => Ok(Turn::Off),
     }
 }

@@ -6,5 +6,6 @@ pub mod order;
 pub mod out;
 pub mod run;
 pub mod set_up;
+pub mod shown;
 pub mod step;
 pub mod whole;

@@ -1,82 +1,101 @@
 // The words of a run at its beginning.
-ghost use Rattle.std.specs.Prelude.{◌≡◌, ℕ, ◌+◌, ◌*◌, ◌^◌, ◌<◌, ◌≤◌, length, slice_index};
+ghost use Rattle.std.specs.Prelude.{◌≡◌, ℕ, ◌*◌, ◌^◌, ◌<◌, ◌≤◌, length, slice_index_or, [], ◌∷◌};
 ghost use Rattle.engine.specs.Setting.{SetUp};
 
 use crate::order::Order;
 use crate::step::Run;
-use evaluation::handed::{Ends, Numbers};
-use queues::ring::Ring;
-use rows::map::Map;
+use queues::lines::Line;
+use queues::ring::Queue;
+use records::process::Record;
+use rows::lookup::Rows;
 use starting::begin::begin;
 use starting::heads::process_at;
 
-// A run can begin; not even the first process can be had; or there is no first process.
-#[derive(Clone, Copy)]
-pub enum Prepared {
-    Ready(Run),
+// Why a run cannot begin: not even the first process can be had, or there is no first process.
+#[derive(Clone, Copy, PartialEq, Eq, Debug)]
+pub enum Unready {
     Crowded,
     Empty,
 }
 
-// Nobody waits anywhere.
-fn clear(lines: &mut [u32])
-    ensures { (k : ℕ) → slice_index lines.new k ≡ 0 }
+// Lent words, as records, lines and slots of a queue for so many processes.
+struct Parts<'a> {
+    processes: &'a mut [Record],
+    lines: &'a mut [Line],
+    slots: &'a mut [u32],
+}
+
+fn parted<'a>(work: &'a mut [u32], most: usize) -> Parts<'a>
+    requires { 67 * most ≤ length work.old }
+    ensures processes { length result.processes.now ≡ most }
+    ensures lines { length result.lines.now ≡ most }
+    ensures slots { most ≤ length result.slots.now }
 {
-    'each: for x in lines.iter_mut() {
-        *x = 0;
+    let (records, others) = work.split_at_mut(64 * most);
+    let (sides, slots) = others.split_at_mut(2 * most);
+    let (processes, _) = records.as_chunks_mut::<64>();
+    let (lines, _) = sides.as_chunks_mut::<2>();
+    Parts {
+        processes,
+        lines,
+        slots,
+    }
+}
+
+// Nobody waits anywhere.
+fn clear(lines: &mut [Line])
+    ensures { (k : ℕ) → k < length lines.new → slice_index_or lines.new k [] ≡ 0 ∷ 0 ∷ [] }
+{
+    for line in lines {
+        *line = [0, 0];
     }
 }
 
 // The first process begins with so many turns; whatever was in the words does not matter.
-pub fn set_up(
-    p: &[u32],
-    map: &Map,
-    processes: &mut [u32],
-    lines: &mut [u32],
-    ready: &mut [u32],
-    most: usize,
+pub fn set_up<'a>(
+    rows: &Rows<'_>,
+    work: &'a mut [u32],
+    most: u32,
     turns: u32,
     order: Order,
-) -> Prepared
-    requires words { length p.now ≤ 16384 }
-    requires code { most < 2 ^ 32 }
-    requires records { 64 * most ≤ length processes.old }
-    requires sides { 2 * most ≤ length lines.old }
-    requires slots { most ≤ length ready.old }
-    ensures { SetUp p.now map.now most turns processes.new lines.new ready.new result }
+) -> Result<Run<'a>, Unready>
+    requires { 67 * most ≤ length work.old }
+    ensures { SetUp rows.now.words.now rows.now.map.now most turns result }
 {
-    match process_at(p, map, 0) {
-        None => Prepared::Empty,
-        Some(head) => {
-            if most == 0 {
-                return Prepared::Crowded;
-            }
-            if head.variables > 16 {
-                return Prepared::Empty;
-            }
-            clear(lines);
-            ready[0] = 0;
-            let ends = Ends { ends: [None; 16] };
-            let numbers = Numbers {
-                values: [0; 16],
-                next: 0,
-            };
-            begin(
-                processes,
-                0,
-                head.body as u32,
-                turns,
-                &ends,
-                0,
-                &numbers,
-                head.variables as usize,
-            );
-            Prepared::Ready(Run {
-                ring: Ring { head: 0, count: 1 },
-                count: 1,
-                total: 0,
-                order,
-            })
-        }
+    let Some(head) = process_at(rows, 0) else {
+        return Err(Unready::Empty);
+    };
+    if most == 0 {
+        return Err(Unready::Crowded);
     }
+    if head.variables > 16 {
+        return Err(Unready::Empty);
+    }
+    let Parts {
+        processes,
+        lines,
+        slots,
+    } = parted(work, most as usize);
+    clear(lines);
+    slots[0] = 0;
+    let zeros = [0; 16];
+    begin(
+        &mut processes[0],
+        head.body as u32,
+        turns,
+        &[],
+        &zeros[..head.variables as usize],
+    );
+    Ok(Run {
+        processes,
+        lines,
+        ready: Queue {
+            slots,
+            head: 0,
+            count: 1,
+        },
+        count: 1,
+        total: 0,
+        order,
+    })
 }

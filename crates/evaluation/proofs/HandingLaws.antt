@@ -56,7 +56,7 @@ zeros_dropped zero l z = z
 zeros_dropped (suc n) l none = none
 zeros_dropped (suc n) l (more z) = zeros_dropped n _ z
 
-zeros : Zeros sixteen
+pub zeros : Zeros sixteen
 zeros = more (more (more (more (more (more (more (more (more (more (more (more (more (more (more (more none)))))))))))))))
 
 -- k of the numbers es have been put into vals, which has room for n, and the rest stands from place here on

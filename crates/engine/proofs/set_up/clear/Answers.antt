@@ -1,12 +1,11 @@
-use Rattle.std.proofs.Common.{◌<◌, ◌≢◌, length, arith, get_or-set_other, get_or-set_same, below_more}
-use Rattle.engine.proofs.SettingLaws.{zero_all}
+use Rattle.std.proofs.Common.{◌<◌, ◌≢◌, [], length, arith, get_or-set_other, get_or-set_same, below_more}
 use Rattle.engine.proofs.set_up.clear.Goals as goal
 
-pub each-preserved : goal.each-preserved
-each-preserved c =
+pub loop-line-preserved : goal.loop-line-preserved
+loop-line-preserved c =
     below_more _ _
-    (λ k h. let ne : k ≢ c.each.x-index = omega arith in rw get_or-set_other (c.each.invariant k h))
-    (let lt : c.each.x-index < length c.each.lines = omega arith in rw get_or-set_same)
+    (λ k h. let ne : k ≢ c.loop-line.line-index = omega arith in rw get_or-set_other (c.loop-line.invariant k h))
+    (let lt : c.loop-line.line-index < length c.loop-line.line-items = omega arith in rw get_or-set_same)
 
 pub returns : goal.returns
-returns c = zero_all c.each.lines c.each.x-index (omega arith) c.each.invariant
+returns c k h = c.loop-line.invariant k (omega arith)

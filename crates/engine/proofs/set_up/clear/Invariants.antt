@@ -1,5 +1,5 @@
-use Rattle.std.proofs.Common.{◌≡◌, ℕ, ◌<◌, get_or}
+use Rattle.std.proofs.Common.{◌≡◌, ℕ, ◌<◌, [], ◌∷◌, get_or}
 use Rattle.engine.proofs.set_up.clear.Given as goal
 
-abbrev pub invariant-each : goal.invariant-each
-invariant-each l = (k : ℕ) → k < l.x-index → get_or l.lines k 0 ≡ 0
+abbrev pub invariant-loop-line : goal.invariant-loop-line
+invariant-loop-line l = (k : ℕ) → k < l.line-index → get_or l.line-items k [] ≡ 0 ∷ 0 ∷ []

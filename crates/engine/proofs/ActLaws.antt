@@ -5,16 +5,16 @@ use Rattle.rows.specs.declared.decode.Instruction.{Instruction}
 use Rattle.rows.specs.declared.decode.Instruction.TheVariants.{Stop, Give, Take, Choose, Offer, Set, If, Show, Start, Become}
 use Rattle.rows.specs.declared.decode.Call.{Call}
 use Rattle.rows.specs.Decode.{instruction_at, talk_at, conversation_in, Words}
-use Rattle.rows.proofs.Talks.{Talk, gives, takes, chooses, offers, talk_found, talks_only, talks_none}
-use Rattle.rows.proofs.Instructions.{Standing, at_give, at_take, at_choose, at_offer, instruction_found}
-use Rattle.model.specs.Program.{nth, Program, Action}
+use Rattle.rows.proofs.Talks.{gives, takes, chooses, offers, talk_found, talks_none}
+use Rattle.rows.proofs.Instructions.{instruction_found}
+use Rattle.model.specs.Program.{nth, Program}
 use Rattle.model.specs.Steps.{Worker, Configuration}
 use Rattle.records.specs.Records.{record_at}
 use Rattle.turns.specs.Scheduling.{wish}
 use Rattle.turns.specs.Turning.{Before}
 use Rattle.turns.specs.Meeting.{Doing}
 use Rattle.turns.proofs.Queue.{in_here}
-use Rattle.turns.proofs.Found.{standing}
+use Rattle.turns.proofs.Found.{standing, talk_wish}
 
 pub doing : (s : List ℕ) (procs : List (List ℕ)) (i at : ℕ) (k l : Instruction) → at ≡ (record_at procs i).place → Some k ≡ instruction_at s at → k ≡ l → Words s at k → Doing s procs i l
 doing s procs i at k l e is kind words = record {
@@ -34,13 +34,7 @@ module _ (s m : List ℕ) (procs lines : List (List ℕ)) (count i : ℕ) (g : P
 
   -- a give, take, choose or offer waits in its conversation
   pub wish_talk : (k : Instruction) → Some k ≡ talk_at s at → (w : Worker) → nth a.workers i ≡ some w → wish w.todo ≡ some (conversation_in k)
-  wish_talk k is w n = go k (talks_only s at k is) w.todo (standing (b.holding.each i w n) at k k is_at (talk_found s at k is) refl)
-    where
-      go : {x : List ℕ} (k : Instruction) → Talk k → (t : Action) → Standing s at x k t → wish t ≡ some (conversation_in k)
-      go k (gives c v) t (at_give r) = refl
-      go k (takes c x y) t (at_take r) = refl
-      go k (chooses c x y) t (at_choose r) = refl
-      go k (offers c f) t (at_offer r) = refl
+  wish_talk k is w n = talk_wish s at (b.holding.each i w n).behind k w.todo is (standing (b.holding.each i w n) at k k is_at (talk_found s at k is) refl)
 
 -- what is none of these and none of the others is nothing
 pub nothing_else : (s : List ℕ) (at : ℕ) (k : Instruction) → None ≡ talk_at s at → Some k ≡ instruction_at s at → (k ≡ Stop → ⊥) → ((x v : ℕ) → k ≡ Set x v → ⊥) → ((v : ℕ) → k ≡ If v → ⊥) → ((v : ℕ) → k ≡ Show v → ⊥) →

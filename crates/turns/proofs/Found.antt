@@ -1,8 +1,10 @@
 -- The instruction of an action is found where it stands.
-use Rattle.std.proofs.Common.{◌≡◌, ℕ, List, ◌++◌, drop, Some, sym, ap, ◌∙◌, subst}
+use Rattle.std.proofs.Common.{◌≡◌, ℕ, List, ◌++◌, drop, Some, sym, refl, ap, ◌∙◌, subst}
+use mathlib.Core.Option.{some}
 use Rattle.rows.specs.declared.decode.Instruction.{Instruction}
 use Rattle.rows.specs.declared.decode.Instruction.TheVariants.{Give, Take, Choose, Offer}
-use Rattle.rows.specs.Decode.{instruction_at}
+use Rattle.rows.specs.Decode.{instruction_at, talk_at, conversation_in}
+use Rattle.rows.proofs.Talks.{Talk, gives, takes, chooses, offers, talks_only}
 use Rattle.rows.proofs.Instructions.{Standing, at_give, at_take, at_choose, at_offer, instruction_found}
 use Rattle.rows.proofs.Passes.{there}
 use Rattle.model.specs.Program.{Expression, Action, give, take, choose, offer}
@@ -10,6 +12,7 @@ use Rattle.model.specs.Steps.{Worker, Together, passes, agrees}
 use Rattle.model.specs.Rows.{row_a}
 use Rattle.records.specs.Records.{Record}
 use Rattle.turns.specs.Holding.{Holds}
+use Rattle.turns.specs.Scheduling.{wish}
 
 -- the action of a worker, by the instruction at its place
 pub standing : {s m : List ℕ} {r : Record} {w : Worker} (h : Holds s m r w) (at : ℕ) (k l : Instruction) → at ≡ r.place → Some k ≡ instruction_at s at → k ≡ l → Standing s at h.behind l w.todo
@@ -57,3 +60,13 @@ pairing {s} {r = r} {q = q} h k (agrees c d n t u v a b f) =
     let one = choose_found s r.place h.behind c n t (rows_as h (choose c n t) a) in
     let two = offer_found s q.place k.behind d u v (rows_as k (offer d u v) b) in
     choose_offer c n one.0 d two.0 one.1 two.1
+
+-- the conversation in which a worker waits, by its give, take, choose or offer
+pub talk_wish : (s : List ℕ) (at : ℕ) (x : List ℕ) (k : Instruction) (t : Action) → Some k ≡ talk_at s at → Standing s at x k t → wish t ≡ some (conversation_in k)
+talk_wish s at x k t is = go k (talks_only s at k is) t
+  where
+    go : (k : Instruction) → Talk k → (t : Action) → Standing s at x k t → wish t ≡ some (conversation_in k)
+    go k (gives c v) t (at_give r) = refl
+    go k (takes c y z) t (at_take r) = refl
+    go k (chooses c y z) t (at_choose r) = refl
+    go k (offers c f) t (at_offer r) = refl

@@ -1,5 +1,5 @@
-use Rattle.std.proofs.Common.{◌≡◌, get_or, ap, ◌∙◌, arith}
-use Rattle.records.specs.Records.{record_of, record_at, moved}
+use Rattle.std.proofs.Common.{get_or, ap, ◌∙◌, arith}
+use Rattle.records.specs.Records.{record_at, moved}
 use Rattle.records.proofs.RecordLaws.{kept_set}
 use Rattle.turns.proofs.AloneTurns.{turn_else, turn_then}
 use Rattle.turns.proofs.alone.fork.Goals.{then-given-eq0, else-given-eq0}

@@ -31,7 +31,7 @@ pub no_spent : spent ≡ running → ⊥
 no_spent e = let z : ◌≡◌ {A = ℕ} 0 1 = cc in omega arith
 
 -- the two readings of a place agree
-pub doing_at : (s procs : List ℕ) (i at : ℕ) (k l : Instruction) → at ≡ (record_at procs i).place → Some k ≡ instruction_at s at → k ≡ l → Words s at k → Doing s procs i l
+pub doing_at : (s : List ℕ) (procs : List (List ℕ)) (i at : ℕ) (k l : Instruction) → at ≡ (record_at procs i).place → Some k ≡ instruction_at s at → k ≡ l → Words s at k → Doing s procs i l
 doing_at s procs i at k l e is kind words = record {
   is = ap Some (sym kind) ∙ (is ∙ ap (instruction_at s) e);
   words = subst (λ (p : ℕ). Words s p l) e (subst (Words s at) kind words);
@@ -44,14 +44,14 @@ head_there s m f head r is none' =
     let y = none' r.program r.reads r.mapped in
     let z : ◌≡◌ {A = ℕ} 0 1 = cc in omega arith
 
-module _ (s : List ℕ) (m : Map) (procs : List ℕ) (i : ℕ) where
+module _ (s : List ℕ) (m : Map) (procs : List (List ℕ)) (i : ℕ) where
   starting_at : (call : Call) (w : Worker) (h : Holds s m.second (record_at procs i) w) → Doing s procs i (Start call) → StartIs s call w h.behind
   starting_at call w h d = start_is s (record_at procs i).place h.behind call w w.todo refl (standing h (record_at procs i).place (Start call) (Start call) refl d.is refl)
 
   becoming_at : (call : Call) (w : Worker) (h : Holds s m.second (record_at procs i) w) → Doing s procs i (Become call) → BecomeIs s call w h.behind
   becoming_at call w h d = become_is s (record_at procs i).place h.behind call w w.todo refl (standing h (record_at procs i).place (Become call) (Become call) refl d.is refl)
 
-  module _ (procs' : List ℕ) (count : ℕ) (there : i < count) (run : (record_at procs i).state ≡ running) where
+  module _ (procs' : List (List ℕ)) (count : ℕ) (there : i < count) (run : (record_at procs i).state ≡ running) where
     -- it stops, or is out of turns
     pub stop_moves : Doing s procs i Stop → Kept procs procs' i (ended (record_at procs i) stopped) → Each s m procs count (λ g a. Moved s m.second g procs procs' count count a [])
     stop_moves d k g a reads mapped h =

@@ -1,21 +1,28 @@
 -- A run in which each step is looked for, from step to step.
-use Rattle.std.proofs.Common.{◌≡◌, ℕ, suc, ◌+◌, ◌<◌, ◌≤◌, List, [], ◌∷◌, ◌++◌, sym, ap, ◌∙◌, subst, append-nil, add-one, arith}
+use Rattle.std.proofs.Common.{◌≡◌, ℕ, suc, ◌+◌, ◌<◌, ◌≤◌, List, [], ◌∷◌, ◌++◌, length, Bool, Option, Ok, Err, refl, sym, ap, ◌∙◌, subst, append-nil, add-one, arith}
 use Rattle.model.specs.Program.{Program}
 use Rattle.model.specs.Steps.{Configuration, more}
 use Rattle.model.specs.Theorems.{Still}
 use Rattle.turns.specs.Holding.{Holding, potential}
+use Rattle.model.specs.Rows.{Reads}
+use Rattle.rows.specs.declared.map.Map.{Map}
+use Rattle.rows.specs.Mapped.{Mapped}
+use Rattle.turns.specs.declared.turn.Trouble.{Trouble}
+use Rattle.turns.specs.declared.turn.Trouble.TheVariants.{Crowded, Odd}
 use Rattle.turns.specs.Turning.{OneMore}
-use Rattle.engine.specs.Running.{overlay, counted}
+use Rattle.engine.specs.Shown.{overlay, counted}
 use Rattle.engine.specs.Ending.{Midway, Finished, TooMany, Written}
 use Rattle.engine.proofs.EndingLaws.{steps_then}
-use Rattle.looking.specs.Moving.{Moved, TooWide}
-use Rattle.looking.specs.Looking.{Widens}
+use Rattle.looking.specs.declared.advance.Progress.{Progress}
+use Rattle.looking.specs.Moving.{Moved, TooWide, Fails, Advanced}
+use Rattle.looking.specs.Looking.{Widens, Breaks, Standing, EachRun, StepsOn, ComesTo}
+use Rattle.engine.specs.declared.step.Run.{Run}
 
-module _ (s m : List ℕ) (g : Program) (most : ℕ) (old procs shown : List ℕ) (count total : ℕ) (a : Configuration) (d : Midway s m g most old procs shown count total a) where
+module _ (s m : List ℕ) (g : Program) (most : ℕ) (old : List ℕ) (procs : List (List ℕ)) (shown : List ℕ) (count total : ℕ) (a : Configuration) (d : Midway s m g most old procs shown count total a) where
   pub written_here : Written g old shown a
   written_here = record { now = d.now; steps = d.steps; written = d.written }
 
-  pub midway_on : (procs' shown' ns : List ℕ) (count' total' : ℕ) → Moved s m g procs procs' count count' d.now ns → count' ≤ most → shown' ≡ overlay (d.now.shown ++ ns) old → total' ≡ counted (d.now.shown ++ ns) →
+  pub midway_on : (procs' : List (List ℕ)) (shown' ns : List ℕ) (count' total' : ℕ) → Moved s m g procs procs' count count' d.now ns → count' ≤ most → shown' ≡ overlay (d.now.shown ++ ns) old → total' ≡ counted (d.now.shown ++ ns) →
       Midway s m g most old procs' shown' count' total' a × (potential s procs' count' < potential s procs count)
   midway_on procs' shown' ns count' total' t few w n = (
     record {
@@ -29,25 +36,25 @@ module _ (s m : List ℕ) (g : Program) (most : ℕ) (old procs shown : List ℕ
     t.falls,
   )
 
-  pub midway_quiet : (procs' : List ℕ) (count' : ℕ) → Moved s m g procs procs' count count' d.now [] → count' ≤ most → Midway s m g most old procs' shown count' total a × (potential s procs' count' < potential s procs count)
+  pub midway_quiet : (procs' : List (List ℕ)) (count' : ℕ) → Moved s m g procs procs' count count' d.now [] → count' ≤ most → Midway s m g most old procs' shown count' total a × (potential s procs' count' < potential s procs count)
   midway_quiet procs' count' t few =
       midway_on procs' shown [] count' total t few (d.written ∙ ap (λ l. overlay l old) (sym (append-nil d.now.shown))) (d.total_is ∙ ap counted (sym (append-nil d.now.shown)))
 
-  pub midway_one : (procs' : List ℕ) → Moved s m g procs procs' count (suc count) d.now [] → count < most → Midway s m g most old procs' shown (count + 1) total a × (potential s procs' (count + 1) < potential s procs count)
+  pub midway_one : (procs' : List (List ℕ)) → Moved s m g procs procs' count (suc count) d.now [] → count < most → Midway s m g most old procs' shown (count + 1) total a × (potential s procs' (count + 1) < potential s procs count)
   midway_one procs' t less =
       subst (λ (n : ℕ). Midway s m g most old procs' shown n total a × (potential s procs' n < potential s procs count)) (sym (add-one count)) (midway_quiet procs' (suc count) t (omega arith))
 
-  pub midway_shows : (procs' shown' : List ℕ) (v total' : ℕ) → Moved s m g procs procs' count count d.now (v ∷ []) →
+  pub midway_shows : (procs' : List (List ℕ)) (shown' : List ℕ) (v total' : ℕ) → Moved s m g procs procs' count count d.now (v ∷ []) →
       ((ns before : List ℕ) → shown ≡ overlay ns before → total ≡ counted ns → (shown' ≡ overlay (ns ++ (v ∷ [])) before) × (total' ≡ counted (ns ++ (v ∷ [])))) →
       Midway s m g most old procs' shown' count total' a × (potential s procs' count < potential s procs count)
   midway_shows procs' shown' v total' t f = let w = f d.now.shown old d.written d.total_is in midway_on procs' shown' (v ∷ []) count total' t d.few w.0 w.1
 
-  pub midway_still : (procs' : List ℕ) → procs' ≡ procs → Still g d.now → Finished s m g most old procs' shown count total a
+  pub midway_still : (procs' : List (List ℕ)) → procs' ≡ procs → Still g d.now → Finished s m g most old procs' shown count total a
   midway_still procs' e x = record {
     now = d.now;
     steps = d.steps;
     still = x;
-    holding = subst (λ (p : List ℕ). Holding s m p count d.now) (sym e) d.holding;
+    holding = subst (λ (p : List (List ℕ)). Holding s m p count d.now) (sym e) d.holding;
     few = d.few;
     written = d.written;
     total_is = d.total_is;
@@ -58,3 +65,26 @@ module _ (s m : List ℕ) (g : Program) (most : ℕ) (old procs shown : List ℕ
 
   pub midway_wide : TooWide g d.now → Widens g a × Written g old shown a
   midway_wide x = (record { now = d.now; steps = d.steps; wide = x }, written_here)
+
+  pub midway_fails : (m' : Map) → m'.second ≡ m → Reads s g → Mapped s g m' → (e : Trouble) → Fails s m' procs most count e → Breaks g most old shown a e
+  midway_fails m' is reads mapped Crowded f = midway_crowded (f g d.now reads mapped (subst (λ (n : List ℕ). Holding s n procs count d.now) (sym is) d.holding))
+  midway_fails m' is reads mapped Odd f = midway_wide (f g d.now reads mapped (subst (λ (n : List ℕ). Holding s n procs count d.now) (sym is) d.holding))
+
+-- what a step answers, once it is known which it is
+pub step_is : (s : List ℕ) (m : Map) (procs procs' : List (List ℕ)) (most count : ℕ) (K : Type 0) (o p : Option Progress) → o ≡ p → Advanced s m procs procs' most count K (Ok o) → Advanced s m procs procs' most count K (Ok p)
+step_is s m procs procs' most count K o p e = subst (λ (o : Option Progress). Advanced s m procs procs' most count K (Ok o)) e
+
+-- the same with as much room
+pub midway_room : (s m : List ℕ) (g : Program) (most most' : ℕ) (old : List ℕ) (procs : List (List ℕ)) (shown : List ℕ) (count total : ℕ) (a : Configuration) → most' ≡ most → (P : Type 0) → Midway s m g most old procs shown count total a × P → Midway s m g most' old procs shown count total a × P
+midway_room s m g most most' old procs shown count total a e P d = (
+  record { now = d.0.now; steps = d.0.steps; holding = d.0.holding; few = let f = d.0.few in omega arith; written = d.0.written; total_is = d.0.total_is },
+  d.1,
+)
+
+-- what the last step of a run says of the whole
+module _ (s : List ℕ) (m : Map) (first shown shown' : List ℕ) (k0 k k' : Run) where
+  pub step_found : (b c : Bool) → b ≡ c → StepsOn s m shown shown' k k' (Ok b) → StepsOn s m shown shown' k k' (Ok c)
+  step_found b c e = subst (λ (b : Bool). StepsOn s m shown shown' k k' (Ok b)) e
+
+  pub comes_err : length k.processes.now ≡ length k0.processes.now → EachRun s m first k0 (λ g a old. Standing s m.second g old shown k a) → (e : Trouble) → StepsOn s m shown shown' k k' (Err e) → ComesTo s m first shown' k0 k' (Err e)
+  comes_err same f e x g a old reads mapped d = subst (λ (n : ℕ). Breaks g n old shown' a e) same (x g a old reads mapped (f g a old reads mapped d))

@@ -1,11 +1,13 @@
 -- A step of two processes together, and where they take none.
-use Rattle.std.proofs.Common.{◌≡◌, ℕ, ◌+◌, ◌-◌, ◌<◌, Bool, true, false, List, [], length, sym, refl, ap, ◌∙◌, subst, inl, inr, append-nil, arith, below_more}
+use Rattle.std.proofs.Common.{◌≡◌, ℕ, ◌+◌, ◌-◌, ◌<◌, Bool, true, false, List, [], length, None, sym, refl, ap, ◌∙◌, subst, inl, inr, append-nil, arith, below_more}
 use mathlib.Core.Option.{Option, some, none}
+use Rattle.rows.specs.Decode.{instruction_at}
+use Rattle.rows.proofs.Instructions.{instruction_found}
 use Rattle.model.specs.Program.{nth, Program}
 use Rattle.model.specs.Steps.{Endpoint, running, Worker, Configuration, Facing, together, here, more, after_together}
 use Rattle.rows.specs.declared.map.Map.{Map}
 use Rattle.records.specs.Records.{record_at}
-use Rattle.queues.specs.Rings.{slot}
+use Rattle.queues.specs.Slots.{slot}
 use Rattle.turns.specs.Holding.{Holds, Holding, weight}
 use Rattle.turns.specs.Scheduling.{waiting}
 use Rattle.turns.specs.Meeting.{Apart, Meets, Met, Exchanged}
@@ -33,7 +35,7 @@ clash e f = let z : ◌≡◌ {A = ℕ} 0 1 = cc in omega arith
 other_way : {o p : Option Endpoint} → Facing o p → Facing p o
 other_way f = record { a = f.b; b = f.a; is_a = f.is_b; is_b = f.is_a; line = sym f.line; sides = λ z. f.sides (sym z) }
 
-module _ (s m procs : List ℕ) (i j : ℕ) where
+module _ (s m : List ℕ) (procs : List (List ℕ)) (i j : ℕ) where
   not_facing : ((w v : Worker) → Holds s m (record_at procs i) w → Holds s m (record_at procs j) v → Facing (waiting w) (waiting v) → ⊥) → NoMeeting s m procs i j
   not_facing f w v w' v' hw hv = ((λ t. f w v hw hv (together_facing t)), (λ t. f w v hw hv (other_way (together_facing t))))
 
@@ -56,16 +58,24 @@ module _ (s m procs : List ℕ) (i j : ℕ) where
     pub nothing_apart : ((n : List ℕ) (w : Worker) → Holds s n (record_at procs i) w → ⊥) → NoMeeting s m procs i j
     nothing_apart z w v w' v' hw hv = absurd (z m w hw)
 
-    pub exchanged : (procs' : List ℕ) (b : Bool) → Faces e d true → Exchanged s m procs procs' i j b → Paired s m procs procs' i j b
+    pub exchanged : (procs' : List (List ℕ)) (b : Bool) → Faces e d true → Exchanged s m procs procs' i j b → Paired s m procs procs' i j b
     exchanged procs' true f x = (x, λ w v hw hv. record { a = e; b = d; is_a = sym (at_e m w hw); is_b = sym (at_d m v hv); line = f.0; sides = f.1 })
     exchanged procs' false f x = (x.0.0, λ w v w' v' hw hv. ((λ t. x.0.1 w v w' v' hw hv t), (λ t. x.1.1 v w v' w' hv hw t)))
 
-  pub met_one : (procs' : List ℕ) (b : Bool) → (j ≡ i → ⊥) → (record_at procs j).state ≡ running → Paired s m procs procs' i j b → MetOne s m procs procs' i j b
+  -- a worker stands at an instruction
+  pub something : (n : List ℕ) (w : Worker) → Holds s n (record_at procs i) w → (at : ℕ) → at ≡ (record_at procs i).place → None ≡ instruction_at s at → ⊥
+  something n w h at is_at none' =
+      let f = instruction_found s (record_at procs i).place w.todo h.behind h.rows in
+      let e = f.is in
+      let n' : None ≡ instruction_at s (record_at procs i).place = none' ∙ ap (instruction_at s) is_at in
+      let z : ◌≡◌ {A = ℕ} 0 1 = cc in omega arith
+
+  pub met_one : (procs' : List (List ℕ)) (b : Bool) → (j ≡ i → ⊥) → (record_at procs j).state ≡ running → Paired s m procs procs' i j b → MetOne s m procs procs' i j b
   met_one procs' true ne r x = (ne, r, x)
   met_one procs' false ne r x = (x.0, λ y z. x.1)
 
 -- Processes x and y have taken a step together.
-module _ (s m : List ℕ) (g : Program) (procs procs' : List ℕ) (count : ℕ) (a : Configuration) (h : Holding s m procs count a) (x y : ℕ) (wx wy : Worker) (ne : x ≡ y → ⊥)
+module _ (s m : List ℕ) (g : Program) (procs procs' : List (List ℕ)) (count : ℕ) (a : Configuration) (h : Holding s m procs count a) (x y : ℕ) (wx wy : Worker) (ne : x ≡ y → ⊥)
     (nx : nth a.workers x ≡ some wx) (ny : nth a.workers y ≡ some wy) (rx : wx.state ≡ running) (ry : wy.state ≡ running) (f : Facing (waiting wx) (waiting wy)) (mt : Met s m procs procs' x y true) where
   apart : Apart procs procs' x y
   apart = (mt ne).0
@@ -90,7 +100,7 @@ module _ (s m : List ℕ) (g : Program) (procs procs' : List ℕ) (count : ℕ) 
         omega arith;
   }
 
-pub met_moves : (s : List ℕ) (m : Map) (procs procs' : List ℕ) (count i j : ℕ) → i < count → j < count → (record_at procs i).state ≡ running → MetOne s m.second procs procs' i j true →
+pub met_moves : (s : List ℕ) (m : Map) (procs procs' : List (List ℕ)) (count i j : ℕ) → i < count → j < count → (record_at procs i).state ≡ running → MetOne s m.second procs procs' i j true →
     Each s m procs count (λ g a. Moved s m.second g procs procs' count count a [])
 met_moves s m procs procs' count i j li lj ri met g a reads mapped h =
     let w = worker_at s m.second procs count i a h li ri in
@@ -102,14 +112,14 @@ met_moves s m procs procs' count i j li lj ri met g a reads mapped h =
     ]
 
 -- One after the other is looked at, and the words stay as they were.
-module _ (s : List ℕ) (m : Map) (old procs procs' : List ℕ) (same : procs ≡ old) where
+module _ (s : List ℕ) (m : Map) (old procs procs' : List (List ℕ)) (same : procs ≡ old) where
   pub met_moves_from : (count i j : ℕ) → i < count → j < count → (record_at old i).state ≡ running → MetOne s m.second procs procs' i j true → Each s m old count (λ g a. Moved s m.second g old procs' count count a [])
-  met_moves_from count i j li lj ri met = met_moves s m old procs' count i j li lj ri (subst (λ (p : List ℕ). MetOne s m.second p procs' i j true) same met)
+  met_moves_from count i j li lj ri met = met_moves s m old procs' count i j li lj ri (subst (λ (p : List (List ℕ)). MetOne s m.second p procs' i j true) same met)
 
   pub unmet_more : (n from i k j : ℕ) → j ≡ slot n from k → MetOne s m.second procs procs' i j false → ((l : ℕ) → l < k → Unmet s m.second old i (slot n from l)) →
       (procs' ≡ old) × ((l : ℕ) → l < k + 1 → Unmet s m.second old i (slot n from l))
   unmet_more n from i k j is met inv = (
     met.0 ∙ same,
     below_more (λ (l : ℕ). Unmet s m.second old i (slot n from l)) k inv
-        (subst (λ (l : ℕ). Unmet s m.second old i l) is (subst (λ (p : List ℕ). Unmet s m.second p i j) same met.1)),
+        (subst (λ (l : ℕ). Unmet s m.second old i l) is (subst (λ (p : List (List ℕ)). Unmet s m.second p i j) same met.1)),
   )

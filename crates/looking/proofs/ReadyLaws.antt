@@ -79,7 +79,7 @@ others_has ws i (suc n) j w l ne e r = elim (same? j n) [
 none_some : {j : ℕ} → none ≡ some j → ⊥
 none_some e = let z : ◌≡◌ {A = ℕ} 0 1 = cc in omega arith
 
-module _ (s m : List ℕ) (g : Program) (procs : List ℕ) (count i : ℕ) (a : Configuration) (h : Holding s m procs count a) (w : Worker) (n : nth a.workers i ≡ some w) (r : w.state ≡ running) where
+module _ (s m : List ℕ) (g : Program) (procs : List (List ℕ)) (count i : ℕ) (a : Configuration) (h : Holding s m procs count a) (w : Worker) (n : nth a.workers i ≡ some w) (r : w.state ≡ running) where
   pub all_others : List ℕ
   all_others = others a.workers i (length a.workers)
 

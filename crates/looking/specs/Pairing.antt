@@ -14,24 +14,24 @@ Faces e d true = (e.line ≡ d.line) × (e.side ≢ d.side)
 Faces e d false = e.line ≡ d.line → (e.side ≢ d.side) → ⊥
 
 -- processes i and j take no step together
-abbrev pub NoMeeting : List ℕ → List ℕ → List ℕ → ℕ → ℕ → Type 0
+abbrev pub NoMeeting : List ℕ → List ℕ → List (List ℕ) → ℕ → ℕ → Type 0
 NoMeeting s second procs i j = (w v w' v' : Worker) → Holds s second (record_at procs i) w → Holds s second (record_at procs j) v → (Together w v w' v' → ⊥) × (Together v w v' w' → ⊥)
 
 -- they have taken one; or they take none, and the words are as they were
-abbrev pub Paired : List ℕ → List ℕ → List ℕ → List ℕ → ℕ → ℕ → Bool → Type 0
+abbrev pub Paired : List ℕ → List ℕ → List (List ℕ) → List (List ℕ) → ℕ → ℕ → Bool → Type 0
 Paired s second procs procs' i j true = Exchanged s second procs procs' i j true ×
     ((w v : Worker) → Holds s second (record_at procs i) w → Holds s second (record_at procs j) v → Facing (waiting w) (waiting v))
 Paired s second procs procs' i j false = (procs' ≡ procs) × NoMeeting s second procs i j
 
 -- process j, if it is another that is running, takes no step together with process i
-abbrev pub Unmet : List ℕ → List ℕ → List ℕ → ℕ → ℕ → Type 0
+abbrev pub Unmet : List ℕ → List ℕ → List (List ℕ) → ℕ → ℕ → Type 0
 Unmet s second procs i j = (j ≢ i) → (record_at procs j).state ≡ running → NoMeeting s second procs i j
 
-abbrev pub MetOne : List ℕ → List ℕ → List ℕ → List ℕ → ℕ → ℕ → Bool → Type 0
+abbrev pub MetOne : List ℕ → List ℕ → List (List ℕ) → List (List ℕ) → ℕ → ℕ → Bool → Type 0
 MetOne s second procs procs' i j true = (j ≢ i) × ((record_at procs j).state ≡ running) × Paired s second procs procs' i j true
 MetOne s second procs procs' i j false = (procs' ≡ procs) × Unmet s second procs i j
 
 -- process i has taken a step together with some other; or it takes none with any
-abbrev pub MetAny : List ℕ → Map → List ℕ → List ℕ → ℕ → ℕ → Bool → Type 0
+abbrev pub MetAny : List ℕ → Map → List (List ℕ) → List (List ℕ) → ℕ → ℕ → Bool → Type 0
 MetAny s m procs procs' count i true = Each s m procs count (λ g a. Moved s m.second g procs procs' count count a [])
 MetAny s m procs procs' count i false = (procs' ≡ procs) × ((j : ℕ) → j < count → Unmet s m.second procs i j)

@@ -1,17 +1,13 @@
-use Rattle.std.proofs.Common.{ℕ, ◌<◌, ◌≤◌, List}
-use Rattle.model.specs.Program.{Program}
-use Rattle.model.specs.Steps.{Configuration}
-use Rattle.model.specs.Rows.{Reads}
-use Rattle.rows.specs.Mapped.{Mapped}
+use Rattle.std.proofs.Common.{◌≡◌, ℕ, ◌<◌, length}
 use Rattle.turns.specs.Holding.{potential}
-use Rattle.looking.specs.Looking.{Standing}
+use Rattle.looking.specs.Looking.{EachRun, Standing}
 use Rattle.looking.proofs.run.look_on.Given as goal
 
--- whatever run has led to where the words stood at first has led, in more steps, to where they stand now
-abbrev pub invariant-steps : goal.invariant-steps
-invariant-steps l = (0 < l.at.count) × (l.at.count ≤ l.most) ×
-    ((g : Program) (a : Configuration) (old : List ℕ) → Reads l.p g → Mapped l.p g l.map → Standing l.p l.map.second g l.most old l.initial.processes l.initial.shown l.initial.at a →
-    Standing l.p l.map.second g l.most old l.processes l.shown l.at a)
+-- there is as much room as at first, and whatever run has led to where the words stood then has led, in more steps, to
+-- where they stand now
+abbrev pub invariant-loop : goal.invariant-loop
+invariant-loop l = (0 < l.run.count) × (length l.run.processes.now ≡ length l.initial.run.processes.now) ×
+    EachRun l.rows.words.now l.rows.map.now l.initial.shown l.initial.run (λ g a old. Standing l.rows.words.now l.rows.map.now.second g old l.shown l.run a)
 
-abbrev pub decreases-steps : goal.decreases-steps
-decreases-steps l = potential l.p l.processes l.at.count
+abbrev pub decreases-loop : goal.decreases-loop
+decreases-loop l = potential l.rows.words.now l.run.processes.now l.run.count

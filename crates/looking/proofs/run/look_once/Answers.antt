@@ -1,46 +1,32 @@
-use Rattle.std.proofs.Common.{arith}
-use Rattle.looking.proofs.LookLaws.{midway_quiet, midway_one, midway_shows, midway_still, midway_crowded, midway_wide}
+use Rattle.std.proofs.Common.{◌+◌, Some, length, refl, ap, ◌∙◌, arith}
+use Rattle.std.proofs.lemmas.Result.{err_from_is_err_and}
+use Rattle.looking.specs.Searching.{AtEnd}
+use Rattle.looking.proofs.LookLaws.{midway_quiet, midway_one, midway_shows, midway_fails, midway_room, step_is}
 use Rattle.looking.proofs.run.look_once.Goals as goal
 
-pub returns-in-On : goal.returns-in-On
-returns-in-On c = (
-  (c.requires.some, c.requires.fits),
-  λ g a old reads mapped d.
-      midway_quiet c.args.p.now c.args.map.now.second g c.args.most old c.args.processes.now c.args.shown.now c.args.at.count c.args.at.total a d c.any_step.new.processes c.args.at.count (c.in-On.ensures g d.now reads mapped d.holding) c.requires.fits,
+pub returns-in_err-step-clause-steps : goal.returns-in_err-step-clause-steps
+returns-in_err-step-clause-steps c =
+    let p = err_from_is_err_and c.from_residual.result c.from_residual.ensures.1 in
+    rw (p.1, p.2) (λ g a old reads mapped d. midway_fails c.args.rows.now.words.now c.args.rows.now.map.now.second g (length c.args.run.now.processes.now) old c.args.run.now.processes.now c.args.shown.now c.args.run.now.count c.args.run.now.total a d c.args.rows.now.map.now refl reads mapped c.in_err-step.field-0.0 c.in_err-step.ensures)
+
+pub returns-in-On-clause-steps : goal.returns-in-On-clause-steps
+returns-in-On-clause-steps c = (
+  c.requires.some,
+  λ g a old reads mapped d. midway_room c.args.rows.now.words.now c.args.rows.now.map.now.second g (length c.args.run.now.processes.now) _ old c.any_step.new.processes c.args.shown.now c.args.run.now.count c.args.run.now.total a c.any_step.auto.processes _
+      (midway_quiet c.args.rows.now.words.now c.args.rows.now.map.now.second g (length c.args.run.now.processes.now) old c.args.run.now.processes.now c.args.shown.now c.args.run.now.count c.args.run.now.total a d c.any_step.new.processes c.args.run.now.count ((step_is c.args.rows.now.words.now c.args.rows.now.map.now c.args.run.now.processes.now c.any_step.new.processes (length c.args.run.now.processes.now) c.args.run.now.count (AtEnd c.args.rows.now.words.now c.args.rows.now.map.now c.args.run.now.processes.now c.args.run.now.count) c.in_ok-step.field-0 _ (c.in-Some.is ∙ ap Some c.in-On.is) c.in_ok-step.ensures) g d.now reads mapped d.holding) c.args.run.now.fits),
 )
 
-pub returns-in-Shown : goal.returns-in-Shown
-returns-in-Shown c = (
-  (c.requires.some, c.requires.fits),
-  λ g a old reads mapped d.
-      midway_shows c.args.p.now c.args.map.now.second g c.args.most old c.args.processes.now c.args.shown.now c.args.at.count c.args.at.total a d c.any_step.new.processes c.write_down-total.new.shown c.in-Shown.value c.write_down-total.result (c.in-Shown.ensures g d.now reads mapped d.holding) c.write_down-total.ensures,
+pub returns-in-Shown-clause-steps : goal.returns-in-Shown-clause-steps
+returns-in-Shown-clause-steps c = (
+  c.requires.some,
+  λ g a old reads mapped d. midway_room c.args.rows.now.words.now c.args.rows.now.map.now.second g (length c.args.run.now.processes.now) _ old c.any_step.new.processes c.write_down-run.new.shown c.args.run.now.count c.write_down-run.result a c.any_step.auto.processes _
+      (midway_shows c.args.rows.now.words.now c.args.rows.now.map.now.second g (length c.args.run.now.processes.now) old c.args.run.now.processes.now c.args.shown.now c.args.run.now.count c.args.run.now.total a d c.any_step.new.processes c.write_down-run.new.shown c.in-Shown.value c.write_down-run.result ((step_is c.args.rows.now.words.now c.args.rows.now.map.now c.args.run.now.processes.now c.any_step.new.processes (length c.args.run.now.processes.now) c.args.run.now.count (AtEnd c.args.rows.now.words.now c.args.rows.now.map.now c.args.run.now.processes.now c.args.run.now.count) c.in_ok-step.field-0 _ (c.in-Some.is ∙ ap Some c.in-Shown.is) c.in_ok-step.ensures) g d.now reads mapped d.holding) c.write_down-run.ensures),
 )
 
-pub returns-in-Started : goal.returns-in-Started
-returns-in-Started c =
-    let less = c.in-Started.ensures.0 in (
-      (omega arith, omega arith),
-      λ g a old reads mapped d.
-          midway_one c.args.p.now c.args.map.now.second g c.args.most old c.args.processes.now c.args.shown.now c.args.at.count c.args.at.total a d c.any_step.new.processes (c.in-Started.ensures.1 g d.now reads mapped d.holding) less,
+pub returns-in-Started-clause-steps : goal.returns-in-Started-clause-steps
+returns-in-Started-clause-steps c =
+    let t = (step_is c.args.rows.now.words.now c.args.rows.now.map.now c.args.run.now.processes.now c.any_step.new.processes (length c.args.run.now.processes.now) c.args.run.now.count (AtEnd c.args.rows.now.words.now c.args.rows.now.map.now c.args.run.now.processes.now c.args.run.now.count) c.in_ok-step.field-0 _ (c.in-Some.is ∙ ap Some c.in-Started.is) c.in_ok-step.ensures) in (
+      omega arith,
+      λ g a old reads mapped d. midway_room c.args.rows.now.words.now c.args.rows.now.map.now.second g (length c.args.run.now.processes.now) _ old c.any_step.new.processes c.args.shown.now (c.args.run.now.count + 1) c.args.run.now.total a c.any_step.auto.processes _
+          (midway_one c.args.rows.now.words.now c.args.rows.now.map.now.second g (length c.args.run.now.processes.now) old c.args.run.now.processes.now c.args.shown.now c.args.run.now.count c.args.run.now.total a d c.any_step.new.processes (t.1 g d.now reads mapped d.holding) t.0),
     )
-
-pub returns-in-Stuck : goal.returns-in-Stuck
-returns-in-Stuck c = (
-  tt,
-  λ g a old reads mapped d.
-      midway_still c.args.p.now c.args.map.now.second g c.args.most old c.args.processes.now c.args.shown.now c.args.at.count c.args.at.total a d c.any_step.new.processes c.in-Stuck.ensures.0 (c.in-Stuck.ensures.1 g d.now reads mapped d.holding),
-)
-
-pub returns-in-Crowded : goal.returns-in-Crowded
-returns-in-Crowded c = (
-  tt,
-  λ g a old reads mapped d.
-      midway_crowded c.args.p.now c.args.map.now.second g c.args.most old c.args.processes.now c.args.shown.now c.args.at.count c.args.at.total a d (c.in-Crowded.ensures g d.now reads mapped d.holding),
-)
-
-pub returns-in-Wide : goal.returns-in-Wide
-returns-in-Wide c = (
-  tt,
-  λ g a old reads mapped d.
-      midway_wide c.args.p.now c.args.map.now.second g c.args.most old c.args.processes.now c.args.shown.now c.args.at.count c.args.at.total a d (c.in-Wide.ensures g d.now reads mapped d.holding),
-)

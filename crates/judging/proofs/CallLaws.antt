@@ -1,6 +1,7 @@
 -- What a start comes to, from the process that is found and what is handed on; and the lists that a call has.
-use Rattle.std.proofs.Common.{◌≡◌, ℕ, ◌+◌, ◌-◌, ◌<◌, Bool, true, false, ◌&&◌, eqb, List, [], ◌∷◌, ◌++◌, length, take as front, drop, Some, None, refl, sym, ap, subst, ◌∙◌, arith, length-append, eq-eqb}
+use Rattle.std.proofs.Common.{◌≡◌, ℕ, ◌+◌, ◌-◌, ◌<◌, Bool, true, false, ◌&&◌, eqb, List, [], ◌∷◌, ◌++◌, length, take as front, drop, Some, None, sym, ap, subst, ◌∙◌, arith, length-append, eq-eqb}
 use mathlib.Core.Option.{some}
+use Rattle.std.proofs.Math.Bool.{and-false}
 use Rattle.std.proofs.Math.Seq.{take-append_seam}
 use Rattle.rows.specs.declared.decode.Call.{Call}
 use Rattle.rows.specs.declared.decode.Head.{Head}
@@ -47,10 +48,6 @@ module _ {r : Rows} {g : Program} {f : ℕ} {h : Head} {points : List ℕ} (b : 
       let l3 = ap length after in
       ((λ k. start_opens k ∙ (ap (λ o. then o (λ b. then (nth g.other t) (λ u. k (b ++ (some u ∷ []))))) hs ∙ (ap (λ o. then o (λ u. k (left ++ (some u ∷ [])))) other ∙ ap k (sym after)))), omega arith)
 
-both_false : (b : Bool) → (b && false) ≡ false
-both_false true = refl
-both_false false = refl
-
 -- a start, where the numbers are as many as the expressions
 starting : Program → At → ℕ → List ℕ → ℕ → (At → Bool) → Bool
 starting g a f cs many k =
@@ -66,7 +63,7 @@ module _ (w : Setting) (k : Call) (d : ℕ) (a : At) where
   unfolding starting
   start_careless st g known cs es t x y lc dc le de deeps room =
       let e = said_of cs y es lc dc le (λ l n. starting g a k.process l n (keeping w g t) ≡ false) (st g known (omega arith) (keeping w g t)) in
-      ap (λ q. oks w.variables es && q) e ∙ both_false (oks w.variables es)
+      ap (λ q. oks w.variables es && q) e ∙ and-false (oks w.variables es)
 
   pub start_on : {next : ℕ} (c : Conversations) → AllVariablesSay (words w) k.numbers d w.variables k.expressions (Some next) →
       Of w.rows (λ g. length a < 16 → StartSays g a k.process (listed (words w) k) k.expressions (Some c)) → StartLooks w k d a (Some (On next c))

@@ -7,6 +7,7 @@ use crate::course::Course;
 use crate::moves::{chosen, given, offered, taken};
 use crate::setting::Setting;
 
+// Each kind of action, by its operands.
 impl Setting<'_> {
     pub(crate) fn stop(&self, conversations: &Conversations, end: usize) -> Option<Course>
         ensures behind { CourseFrom self.now.rows.words.now end result }

@@ -2,7 +2,6 @@
 pub mod Conversing
 pub mod VariableLaws
 pub mod HandingLaws
-pub mod ActionLaws
+pub mod ProgramTests
 pub mod CallLaws
 pub mod WalkLaws
-pub mod ProgramTests

@@ -1,94 +1,45 @@
 -- Testing every point and every process, and the conversations with which a process begins.
-use Rattle.std.proofs.Common.{◌≡◌, ℕ, zero, suc, ◌+◌, ◌<◌, ◌≤◌, Bool, true, false, ◌&&◌, eqb, List, [], ◌∷◌, ◌++◌, length, get_or, drop, Option, sym, refl, ap, ◌∙◌, subst, append_assoc, append-nil, add-zero, add-one, arith, length-append, drop_of_length-le}
+use Rattle.std.proofs.Common.{◌≡◌, ℕ, zero, suc, ◌+◌, ◌<◌, Bool, true, ◌&&◌, eqb, List, [], ◌∷◌, ◌++◌, length, get_or, take, Some, None, Option, is_some, refl, sym, ap, subst, ◌∙◌, add-zero, add-one, arith}
 use mathlib.Core.Option.{some}
-use Rattle.rows.proofs.Places.{word_here, rest_at}
+use Rattle.std.specs.List.{list_all, range_with_len}
 use Rattle.rows.specs.declared.decode.Head.{Head}
-use Rattle.rows.specs.declared.map.Map.{Map}
-use Rattle.rows.specs.Mapped.{Known, ProcessFound}
+use Rattle.rows.specs.declared.lookup.Rows.{Rows}
+use Rattle.rows.specs.Mapped.{Known}
 use Rattle.judging.specs.declared.conversations.Conversations.{Conversations}
 use Rattle.judging.specs.Following.{WalkSays}
 use Rattle.judging.specs.Judging.{Verdict}
-use Rattle.judging.specs.Program.{ProcessKeeps}
+use Rattle.judging.specs.Program.{ProcessKeeps, Begins}
 use Rattle.judging.specs.Standing.{stand}
 use Rattle.model.specs.Program.{nth, Process, Program}
-use Rattle.model.specs.Rows.{row_a, Fine, AllFine}
-use Rattle.model.specs.Keeps.{At, begins, keeps}
+use Rattle.model.specs.Rows.{Fine, AllFine}
+use Rattle.model.specs.Keeps.{then, keeps, begins}
 
-drop_nth : {A : Type 0} (xs : List A) (k : ℕ) {x : A} → nth xs k ≡ some x → drop k xs ≡ x ∷ drop (suc k) xs
-drop_nth [] k h = let z : ◌≡◌ {A = ℕ} 0 1 = cc in absurd (omega arith)
-drop_nth (y ∷ xs) zero h = cc
-drop_nth (y ∷ xs) (suc k) h = drop_nth xs k h
+-- A test of all elements by their numbers is one of all numbers that there are.
+module _ {A : Type 0} (f : ℕ → A → Bool) (all : ℕ → List A → Bool) (nil : (i : ℕ) → all i [] ≡ true) (cons : (i : ℕ) (x : A) (xs : List A) → all i (x ∷ xs) ≡ f i x && all (suc i) xs) (ys : List A) where
+  tested_from : (xs : List A) (i : ℕ) → ((k : ℕ) → nth ys (i + k) ≡ nth xs k) → list_all (λ j. then (nth ys j) (f j)) (range_with_len i (length xs)) ≡ all i xs
+  tested_from [] i at = sym (nil i)
+  tested_from (x ∷ xs) i at =
+      let here : nth ys i ≡ some x = ap (nth ys) (sym (add-zero i)) ∙ at 0 in
+      let later : (k : ℕ) → nth ys (i + 1 + k) ≡ nth xs k = λ k. let e : i + 1 + k ≡ i + suc k = omega arith in ap (nth ys) e ∙ at (suc k) in
+      let rest = tested_from xs (i + 1) later in
+      let next : all (i + 1) xs ≡ all (suc i) xs = ap (λ (j : ℕ). all j xs) (add-one i) in
+      ap (λ o. then o (f i) && list_all (λ j. then (nth ys j) (f j)) (range_with_len (i + 1) (length xs))) here ∙ (ap (λ b. f i x && b) (rest ∙ next) ∙ sym (cons i x xs))
 
--- A test of all elements, by their numbers, that is made one at a time: the first k passed, so the rest decides.
-module _ {A : Type 0} (f : ℕ → A → Bool) (all : ℕ → List A → Bool) (nil : (i : ℕ) → all i [] ≡ true) (cons : (i : ℕ) (x : A) (xs : List A) → all i (x ∷ xs) ≡ f i x && all (suc i) xs) (xs : List A) (k : ℕ)
-    (so_far : all 0 xs ≡ all k (drop k xs)) where
-  split : (x : A) → nth xs k ≡ some x → all 0 xs ≡ f k x && all (suc k) (drop (suc k) xs)
-  split x h = so_far ∙ (ap (all k) (drop_nth xs k h) ∙ cons k x (drop (suc k) xs))
+  pub tested : list_all (λ j. then (nth ys j) (f j)) (range_with_len 0 (length ys)) ≡ all 0 ys
+  tested = tested_from ys 0 (λ k. let e : 0 + k ≡ k = omega arith in ap (nth ys) e)
 
-  pub tested_more : (x : A) → nth xs k ≡ some x → true ≡ f k x → all 0 xs ≡ all (k + 1) (drop (k + 1) xs)
-  tested_more x h t = rw add-one (split x h ∙ ap (λ b. b && all (suc k) (drop (suc k) xs)) (sym t))
+-- The first k conversations of a process, and one more.
+begins_suc : (ts : List ℕ) (k : ℕ) → k < length ts → begins (take (suc k) ts) ≡ begins (take k ts) ++ (some (get_or ts k 0) ∷ [])
+begins_suc [] k lt = absurd (omega arith)
+begins_suc (t ∷ ts) zero lt = refl
+begins_suc (t ∷ ts) (suc k) lt = ap (λ a. some t ∷ a) (begins_suc ts k (omega arith))
 
-  pub tested_not : (x : A) → nth xs k ≡ some x → false ≡ f k x → false ≡ all 0 xs
-  tested_not x h t = sym (split x h ∙ ap (λ b. b && all (suc k) (drop (suc k) xs)) (sym t))
+pub begins_more : (ts : List ℕ) (k : ℕ) → k < length ts → begins (take (k + 1) ts) ≡ begins (take k ts) ++ (some (get_or ts k 0) ∷ [])
+begins_more ts k lt = rw add-one (begins_suc ts k lt)
 
-  pub tested_all : length xs ≤ k → true ≡ all 0 xs
-  tested_all le = sym (so_far ∙ (ap (all k) (drop_of_length-le xs le) ∙ nil k))
-
-begins_snoc : (ts : List ℕ) (t : ℕ) → begins (ts ++ (t ∷ [])) ≡ begins ts ++ (some t ∷ [])
-begins_snoc [] t = refl
-begins_snoc (u ∷ ts) t = ap (λ l. some u ∷ l) (begins_snoc ts t)
-
-begins_length : (ts : List ℕ) → length (begins ts) ≡ length ts
+pub begins_length : (ts : List ℕ) → length (begins ts) ≡ length ts
 begins_length [] = refl
 begins_length (t ∷ ts) = ap suc (begins_length ts)
-
--- The first k conversations of a process are begun.
-pub record Part (s : List ℕ) (at k : ℕ) (ts x : List ℕ) (a : At) : Type 0 where
-  pub front : List ℕ
-  pub back : List ℕ
-  pub all : ts ≡ front ++ back
-  pub many : length front ≡ k
-  pub rows : drop (at + k) s ≡ back ++ x
-  pub begun : a ≡ begins front
-
-abbrev pub Begun : List ℕ → ℕ → ℕ → ℕ → At → Type 0
-Begun s at count k a = (ts x : List ℕ) → length ts ≡ count → length ts ≤ 16 → drop at s ≡ ts ++ x → Part s at k ts x a
-
-pub begun_none : (s : List ℕ) (at count : ℕ) (a : At) → a ≡ [] → Begun s at count 0 a
-begun_none s at count a e ts x l few h = record { front = []; back = ts; all = refl; many = refl; rows = rw add-zero h; begun = e }
-
-module _ (s : List ℕ) (at count k : ℕ) (a : At) (b : Begun s at count k a) where
-  pub begun_more : k < count → (a' : At) → a' ≡ a ++ (some (get_or s (at + k) 0) ∷ []) → Begun s at count (k + 1) a'
-  begun_more lt a' e ts x l few h = let p = b ts x l few h in go p.front p.back p.all p.many p.rows p.begun
-    where
-      go : (front back : List ℕ) → ts ≡ front ++ back → length front ≡ k → drop (at + k) s ≡ back ++ x → a ≡ begins front → Part s at (k + 1) ts x a'
-      go front [] all many rows begun = let z = ap length all in let y = length-append front [] in absurd (omega arith)
-      go front (t ∷ back) all many rows begun =
-          let w : get_or s (at + k) 0 ≡ t = word_here s (at + k) rows in
-          let n : at + (k + 1) ≡ at + k + 1 = omega arith in
-          record {
-            front = front ++ (t ∷ []);
-            back = back;
-            all = all ∙ sym (append_assoc front (t ∷ []) back);
-            many = length-append front (t ∷ []) ∙ omega arith;
-            rows = rw n (rest_at s (at + k) 1 rows);
-            begun = e ∙ (ap (λ (q : ℕ). a ++ (some q ∷ [])) w ∙ (ap (λ l. l ++ (some t ∷ [])) begun ∙ sym (begins_snoc front t)));
-          }
-
-  pub begun_full : k < count → length a ≡ 16 → (a' : At) (ts x : List ℕ) → length ts ≡ count → length ts ≤ 16 → drop at s ≡ ts ++ x → a' ≡ begins ts
-  begun_full lt full a' ts x l few h =
-      let p = b ts x l few h in
-      let e1 = ap length p.begun in
-      let e2 = begins_length p.front in
-      let e3 = p.many in
-      absurd (omega arith)
-
-  pub begun_all : k ≡ count → (ts x : List ℕ) → length ts ≡ count → length ts ≤ 16 → drop at s ≡ ts ++ x → a ≡ begins ts
-  begun_all e ts x l few h = let p = b ts x l few h in go p.front p.back p.all p.many p.begun
-    where
-      go : (front back : List ℕ) → ts ≡ front ++ back → length front ≡ k → a ≡ begins front → a ≡ begins ts
-      go front [] all many begun = begun ∙ ap begins (sym (all ∙ append-nil front))
-      go front (t ∷ back) all many begun = let z = ap length all in let y = length-append front (t ∷ back) in absurd (omega arith)
 
 fine_nth : (ps : List Process) (i : ℕ) {p : Process} → AllFine ps → nth ps i ≡ some p → Fine p
 fine_nth [] i f h = let z : ◌≡◌ {A = ℕ} 0 1 = cc in absurd (omega arith)
@@ -96,17 +47,27 @@ fine_nth (q ∷ ps) zero f h = let e : q ≡ _ = cc in subst Fine e f.0
 fine_nth (q ∷ ps) (suc i) f h = fine_nth ps i f.1 h
 
 -- A process that was found keeps as its walk says.
-pub process_says : (s : List ℕ) (m : Map) (g : Program) (i : ℕ) (h : Head) (q : Process) (c : Conversations) (r : Bool) (e : Option ℕ) (b : Bool) → Known s m g → nth g.procs i ≡ some q → ProcessFound s m.second g i h →
-    ((ts x : List ℕ) → length ts ≡ h.count → length ts ≤ 16 → drop h.talks s ≡ ts ++ x → stand c ≡ begins ts) → r ≡ eqb i 0 → WalkSays s m h.body 256 h.variables r (stand c) e →
-    ((x : List ℕ) (k : Bool) → Verdict s x k e → k ≡ b) → b ≡ ProcessKeeps g i q
-process_says s m g i h q c r e b known is f begin root walk verdict =
-    let same : f.it ≡ q = cc f.is in
-    let fine = fine_nth g.procs i known.reads.fine f.is in
-    let p = f.it in
-    let l1 = fine.talks in
-    let st = begin p.talks (p.nums ∷ p.vars ∷ (row_a p.body ++ f.behind)) (sym f.head.count) (omega arith) f.head.talks in
-    let l2 = ap length st ∙ begins_length p.talks in
-    let v = walk g p.body f.behind known f.head.body fine.nested (omega arith) in
-    let k : keeps g h.variables r p.body (stand c) ≡ b = verdict f.behind (keeps g h.variables r p.body (stand c)) v in
-    sym (ap (ProcessKeeps g i) (sym same) ∙ (ap (λ (n : ℕ). keeps g n (eqb i 0) p.body (begins p.talks)) (sym f.head.variables)
-    ∙ (ap (λ a. keeps g h.variables (eqb i 0) p.body a) (sym st) ∙ (ap (λ o. keeps g h.variables o p.body (stand c)) (sym root) ∙ k))))
+module _ {r : Rows} {g : Program} {i : ℕ} {h : Head} {points : List ℕ} (known : Known r.words.now r.map.now g) (b : Begins r g i h points) where
+  fine : Fine b.found.it
+  fine = fine_nth g.procs i known.reads.fine b.found.is
+
+  pub process_crowded : 16 < length points → ⊥
+  process_crowded many = let f = fine.talks in let e = ap length b.talks in omega arith
+
+  -- a verdict, as a test of whether there is one
+  given : (s x : List ℕ) (k : Bool) (e : Option ℕ) → Verdict s x k e → is_some e ≡ k
+  given s x k None v = sym v
+  given s x k (Some j) v = sym v.0
+
+  pub process_says : (c : Conversations) (e : Option ℕ) → stand c ≡ begins points → WalkSays (record { rows = r; variables = h.variables; root = eqb i 0 }) h.body 256 (stand c) e →
+      is_some e ≡ then (nth g.procs i) (ProcessKeeps g i)
+  process_says c e begun walk =
+      let p = b.found.it in
+      let f = fine in
+      let f1 = f.talks in
+      let st : stand c ≡ begins p.talks = begun ∙ ap begins b.talks in
+      let l = ap length st ∙ begins_length p.talks in
+      let v = walk g known p.body b.found.behind b.found.head.body f.nested (omega arith) in
+      given r.words.now b.found.behind (keeps g h.variables (eqb i 0) p.body (stand c)) e v
+      ∙ (ap (λ a. keeps g h.variables (eqb i 0) p.body a) st ∙ (ap (λ (n : ℕ). keeps g n (eqb i 0) p.body (begins p.talks)) b.found.head.variables
+      ∙ sym (ap (λ o. then o (ProcessKeeps g i)) b.found.is)))

@@ -3,11 +3,12 @@ use Rattle.std.specs.Prelude.{◌≡◌, ℕ, ◌<◌, ◌≤◌, Bool, true, fa
 use Rattle.std.proofs.Math.Option.{Option as Maybe, some, none}
 use Rattle.rows.specs.declared.decode.PointKind.{PointKind}
 use Rattle.rows.specs.Decode.{said}
+use Rattle.judging.specs.declared.conversations.Conversations.{Conversations}
 use Rattle.judging.specs.declared.moves.Fork.{Fork}
-use Rattle.judging.specs.Standing.{held}
+use Rattle.judging.specs.Standing.{stand}
 use Rattle.model.specs.Program.{nth, Point, Expression, Program}
 use Rattle.model.specs.Rows.{row_e, row_es, deep_e, deep_es}
-use Rattle.model.specs.Keeps.{At, Ways, ways, then, is_over, at_point, moves, hands, ok, oks}
+use Rattle.model.specs.Keeps.{At, Ways, ways, then, is_over, at_point, hands, ok, oks}
 
 -- The verdict on something that is written with the words x behind it, where b says whether it passes: a place where
 -- x begins if it does, and none if it does not.
@@ -36,16 +37,10 @@ abbrev pub KindSays : Program → At → ℕ → Option PointKind → Type 0
 KindSays g a c None = (k : Point → Bool) → at_point g a c k ≡ false
 KindSays g a c (Some q) = (k : Point → Bool) → at_point g a c k ≡ k (said q)
 
--- Where a conversation goes on after an action: at one point, or at one of two.
-abbrev pub NextSays : Program → At → ℕ → (Point → Maybe ℕ) → Option ℕ → Type 0
-NextSays g a c next r = (k : ℕ → Bool) → moves g a c next k ≡ then (held r) k
-
+-- the points at which two ways go on
 abbrev pub ways_of : Option Fork → Maybe Ways
 ways_of None = none
 ways_of (Some f) = some (ways f.first f.second)
-
-abbrev pub WaysSay : Program → At → ℕ → (Point → Maybe Ways) → Option Fork → Type 0
-WaysSay g a c next r = (k : Ways → Bool) → moves g a c next k ≡ then (ways_of r) k
 
 -- one conversation is over or handed on
 abbrev pub over_one : Program → Maybe ℕ → Bool
@@ -53,6 +48,6 @@ over_one g none = true
 over_one g (some t) = then (nth g.points t) is_over
 
 -- what handing on comes to: the conversations that are left, or a refusal
-abbrev pub HandsSay : At → List ℕ → List ℕ → At → Bool → Type 0
-HandsSay a cs ts b true = hands a cs ts ≡ some b
-HandsSay a cs ts b false = hands a cs ts ≡ none
+abbrev pub HandsSay : At → List ℕ → List ℕ → Option Conversations → Type 0
+HandsSay a cs ts None = hands a cs ts ≡ none
+HandsSay a cs ts (Some c) = hands a cs ts ≡ some (stand c)

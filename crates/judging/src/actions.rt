@@ -1,193 +1,129 @@
-// Looks at one action, with each conversation at its point.
-ghost use Rattle.std.specs.Prelude.{◌≡◌, ℕ, ◌+◌, ◌<◌, ◌≤◌, List, ◌++◌, length};
-ghost use Rattle.std.proofs.Math.Option.{some};
+// Looks at one action, with each conversation at its point: what it comes to, if it may keep to the conversations.
 ghost use Rattle.judging.specs.Following.{CourseFrom, StopSays, GiveSays, TakeSays, ChooseSays, OfferSays, SetSays, IfSays, ShowSays};
 ghost use Rattle.judging.specs.Standing.{stand};
-ghost use Rattle.model.specs.Program.{put};
 
 use crate::conversations::Conversations;
 use crate::course::Course;
-use crate::handing::all_over;
-use crate::moves::{after_choosing, after_giving, after_offering, after_taking};
-use crate::variables::variables_there;
-use rows::map::Map;
+use crate::moves::{chosen, given, offered, taken};
+use crate::setting::Setting;
 
-// The conversations with one of them at another point.
-fn moved(conversations: &Conversations, conversation: u32, point: u32) -> Conversations
-    ensures { stand result ≡ put (stand conversations.now) conversation (some point) }
-{
-    let mut after = *conversations;
-    after.move_to(conversation, Some(point));
-    after
-}
+// Each kind of action, by its operands.
+impl Setting<'_> {
+    pub(crate) fn stop(&self, conversations: &Conversations, end: usize) -> Option<Course>
+        ensures behind { CourseFrom self.now.rows.words.now end result }
+        ensures says { StopSays self.now end (stand conversations.now) result }
+    {
+        conversations
+            .all_over(&self.rows)
+            .then_some(Course::Kept(end))
+    }
 
-pub(crate) fn look_at_give(
-    p: &[u32],
-    map: &Map,
-    conversations: &Conversations,
-    conversation: u32,
-    value: usize,
-    depth: u32,
-    variables: u32,
-    root: bool,
-) -> Course
-    ensures behind { CourseFrom p.now value result }
-    ensures says { GiveSays p.now map.now conversation value depth variables root (stand conversations.now) result }
-{
-    match variables_there(p, value, depth, variables) {
-        None => Course::Careless,
-        Some(next) => match after_giving(p, map, conversations, conversation) {
-            None => Course::Careless,
-            Some(point) => Course::On(next, moved(conversations, conversation, point)),
-        },
+    pub(crate) fn give(
+        &self,
+        conversations: &Conversations,
+        conversation: u32,
+        value: usize,
+        depth: u32,
+    ) -> Option<Course>
+        ensures behind { CourseFrom self.now.rows.words.now value result }
+        ensures says { GiveSays self.now conversation value depth (stand conversations.now) result }
+    {
+        let next = self.variables_there(value, depth)?;
+        let point = given(conversations.kind(&self.rows, conversation)?)?;
+        Some(Course::On(next, conversations.moved(conversation, point)))
     }
-}
 
-pub(crate) fn look_at_take(
-    p: &[u32],
-    map: &Map,
-    conversations: &Conversations,
-    conversation: u32,
-    variable: u32,
-    next: usize,
-    depth: u32,
-    variables: u32,
-    root: bool,
-) -> Course
-    ensures behind { CourseFrom p.now next result }
-    ensures says { TakeSays p.now map.now conversation variable next depth variables root (stand conversations.now) result }
-{
-    if variable >= variables {
-        return Course::Careless;
+    pub(crate) fn take(
+        &self,
+        conversations: &Conversations,
+        conversation: u32,
+        variable: u32,
+        next: usize,
+    ) -> Option<Course>
+        ensures behind { CourseFrom self.now.rows.words.now next result }
+        ensures says { TakeSays self.now conversation variable next (stand conversations.now) result }
+    {
+        if variable >= self.variables {
+            return None;
+        }
+        let point = taken(conversations.kind(&self.rows, conversation)?)?;
+        Some(Course::On(next, conversations.moved(conversation, point)))
     }
-    match after_taking(p, map, conversations, conversation) {
-        None => Course::Careless,
-        Some(point) => Course::On(next, moved(conversations, conversation, point)),
-    }
-}
 
-pub(crate) fn look_at_choose(
-    p: &[u32],
-    map: &Map,
-    conversations: &Conversations,
-    conversation: u32,
-    way: u32,
-    next: usize,
-    depth: u32,
-    variables: u32,
-    root: bool,
-) -> Course
-    ensures behind { CourseFrom p.now next result }
-    ensures says { ChooseSays p.now map.now conversation way next depth variables root (stand conversations.now) result }
-{
-    match after_choosing(p, map, conversations, conversation) {
-        None => Course::Careless,
-        Some(fork) => match way {
-            0 => Course::On(next, moved(conversations, conversation, fork.first)),
-            1 => Course::On(next, moved(conversations, conversation, fork.second)),
-            _ => Course::Careless,
-        },
+    pub(crate) fn choose(
+        &self,
+        conversations: &Conversations,
+        conversation: u32,
+        way: u32,
+        next: usize,
+    ) -> Option<Course>
+        ensures behind { CourseFrom self.now.rows.words.now next result }
+        ensures says { ChooseSays self.now conversation way next (stand conversations.now) result }
+    {
+        let ways = chosen(conversations.kind(&self.rows, conversation)?)?;
+        match way {
+            0 => Some(Course::On(next, conversations.moved(conversation, ways.first))),
+            1 => Some(Course::On(next, conversations.moved(conversation, ways.second))),
+            _ => None,
+        }
     }
-}
 
-pub(crate) fn look_at_offer(
-    p: &[u32],
-    map: &Map,
-    conversations: &Conversations,
-    conversation: u32,
-    first: usize,
-    depth: u32,
-    variables: u32,
-    root: bool,
-) -> Course
-    ensures behind { CourseFrom p.now first result }
-    ensures says { OfferSays p.now map.now conversation first depth variables root (stand conversations.now) result }
-{
-    match after_offering(p, map, conversations, conversation) {
-        None => Course::Careless,
-        Some(fork) => Course::Parted(
-            first,
-            moved(conversations, conversation, fork.first),
-            moved(conversations, conversation, fork.second),
-        ),
+    pub(crate) fn offer(
+        &self,
+        conversations: &Conversations,
+        conversation: u32,
+        first: usize,
+    ) -> Option<Course>
+        ensures behind { CourseFrom self.now.rows.words.now first result }
+        ensures says { OfferSays self.now conversation first (stand conversations.now) result }
+    {
+        let ways = offered(conversations.kind(&self.rows, conversation)?)?;
+        let one = conversations.moved(conversation, ways.first);
+        let two = conversations.moved(conversation, ways.second);
+        Some(Course::Parted(first, one, two))
     }
-}
 
-pub(crate) fn look_at_stop(
-    p: &[u32],
-    map: &Map,
-    conversations: &Conversations,
-    end: usize,
-    depth: u32,
-    variables: u32,
-    root: bool,
-) -> Course
-    ensures behind { CourseFrom p.now end result }
-    ensures says { StopSays p.now map.now end depth variables root (stand conversations.now) result }
-{
-    if all_over(p, map, conversations) {
-        return Course::Kept(end);
+    pub(crate) fn set(
+        &self,
+        conversations: &Conversations,
+        variable: u32,
+        value: usize,
+        depth: u32,
+    ) -> Option<Course>
+        ensures behind { CourseFrom self.now.rows.words.now value result }
+        ensures says { SetSays self.now variable value depth (stand conversations.now) result }
+    {
+        if variable >= self.variables {
+            return None;
+        }
+        Some(Course::On(self.variables_there(value, depth)?, *conversations))
     }
-    Course::Careless
-}
 
-pub(crate) fn look_at_set(
-    p: &[u32],
-    map: &Map,
-    conversations: &Conversations,
-    variable: u32,
-    value: usize,
-    depth: u32,
-    variables: u32,
-    root: bool,
-) -> Course
-    ensures behind { CourseFrom p.now value result }
-    ensures says { SetSays p.now map.now variable value depth variables root (stand conversations.now) result }
-{
-    if variable >= variables {
-        return Course::Careless;
+    pub(crate) fn part(
+        &self,
+        conversations: &Conversations,
+        condition: usize,
+        depth: u32,
+    ) -> Option<Course>
+        ensures behind { CourseFrom self.now.rows.words.now condition result }
+        ensures says { IfSays self.now condition depth (stand conversations.now) result }
+    {
+        let first = self.variables_there(condition, depth)?;
+        Some(Course::Parted(first, *conversations, *conversations))
     }
-    match variables_there(p, value, depth, variables) {
-        None => Course::Careless,
-        Some(next) => Course::On(next, *conversations),
-    }
-}
 
-pub(crate) fn look_at_if(
-    p: &[u32],
-    map: &Map,
-    conversations: &Conversations,
-    condition: usize,
-    depth: u32,
-    variables: u32,
-    root: bool,
-) -> Course
-    ensures behind { CourseFrom p.now condition result }
-    ensures says { IfSays p.now map.now condition depth variables root (stand conversations.now) result }
-{
-    match variables_there(p, condition, depth, variables) {
-        None => Course::Careless,
-        Some(first) => Course::Parted(first, *conversations, *conversations),
-    }
-}
-
-pub(crate) fn look_at_show(
-    p: &[u32],
-    map: &Map,
-    conversations: &Conversations,
-    value: usize,
-    depth: u32,
-    variables: u32,
-    root: bool,
-) -> Course
-    ensures behind { CourseFrom p.now value result }
-    ensures says { ShowSays p.now map.now value depth variables root (stand conversations.now) result }
-{
-    if !root {
-        return Course::Careless;
-    }
-    match variables_there(p, value, depth, variables) {
-        None => Course::Careless,
-        Some(next) => Course::On(next, *conversations),
+    pub(crate) fn show(
+        &self,
+        conversations: &Conversations,
+        value: usize,
+        depth: u32,
+    ) -> Option<Course>
+        ensures behind { CourseFrom self.now.rows.words.now value result }
+        ensures says { ShowSays self.now value depth (stand conversations.now) result }
+    {
+        if !self.root {
+            return None;
+        }
+        Some(Course::On(self.variables_there(value, depth)?, *conversations))
     }
 }

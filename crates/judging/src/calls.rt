@@ -1,135 +1,83 @@
 // Looks at what a start or become hands on.
-ghost use Rattle.std.specs.Prelude.{◌≡◌, ℕ, ◌+◌, ◌<◌, ◌≤◌, List, ◌++◌, length, drop};
-ghost use Rattle.judging.specs.Following.{StartSays, becomes_well, CourseFrom, StartLooks, BecomeLooks};
+ghost use Rattle.std.specs.Prelude.{◌≡◌, ◌+◌, ◌<◌, ◌≤◌, length};
+ghost use Rattle.judging.specs.Following.{CourseFrom, listed, StartSays, becomes_well, StartLooks, BecomeLooks};
 ghost use Rattle.judging.specs.Standing.{stand};
-ghost use Rattle.model.specs.Program.{Program};
-ghost use Rattle.rows.specs.Mapped.{Known};
+ghost use Rattle.rows.specs.Mapped.{Of};
 
+use crate::beginning::beginning;
 use crate::conversations::Conversations;
 use crate::course::Course;
-use crate::handing::{all_over, hand_on};
-use crate::variables::all_variables_there;
+use crate::setting::Setting;
 use rows::decode::Call;
-use rows::lookup::{other_of, process_of};
-use rows::map::Map;
 
-// The conversations after a start, with the new one last, if what is handed on is what the process begins with.
-pub(crate) fn after_start(
-    p: &[u32],
-    map: &Map,
-    conversations: &Conversations,
-    call: &Call,
-) -> Option<Conversations>
-    requires { call.now.conversations + call.now.count ≤ length p.now }
-    ensures { (g : Program) (cs x : List ℕ) → Known p.now map.now g → length cs ≡ call.now.count →
-        drop call.now.conversations p.now ≡ cs ++ x → length (stand conversations.now) < 16 →
-        StartSays g (stand conversations.now) call.now.process cs call.now.expressions result }
+// The conversations that a call lists.
+fn listed<'a>(words: &'a [u32], call: &Call) -> &'a [u32]
+    requires { call.now.conversations + call.now.count ≤ length words.now }
+    ensures { result.now ≡ listed words.now call.now }
 {
-    match process_of(p, map, call.process) {
-        None => None,
-        Some(head) => {
-            if call.expressions != head.numbers {
-                return None;
-            }
-            if head.count == 0 {
-                return None;
-            }
-            if head.count - 1 != call.count {
-                return None;
-            }
-            let mut left = *conversations;
-            if !hand_on(p, &mut left, call.conversations, head.talks + 1, call.count) {
-                return None;
-            }
-            match other_of(p, map, p[head.talks]) {
-                None => None,
-                Some(point) => {
-                    if !left.add(point) {
-                        return None;
-                    }
-                    Some(left)
-                }
-            }
-        }
-    }
+    &words[call.conversations..call.conversations + call.count]
 }
 
-// Whether becoming a process keeps: it gets what it begins with, what is left is over, and process 0 becomes only itself.
-pub(crate) fn becomes_well(
-    p: &[u32],
-    map: &Map,
-    conversations: &Conversations,
-    call: &Call,
-    root: bool,
-) -> bool
-    requires { call.now.conversations + call.now.count ≤ length p.now }
-    ensures { (g : Program) (cs x : List ℕ) → Known p.now map.now g → length cs ≡ call.now.count →
-        drop call.now.conversations p.now ≡ cs ++ x →
-        result ≡ becomes_well g root (stand conversations.now) call.now.process cs call.now.expressions }
-{
-    match process_of(p, map, call.process) {
-        None => false,
-        Some(head) => {
-            if call.expressions != head.numbers {
-                return false;
-            }
-            if root != (call.process == 0) {
-                return false;
-            }
-            if head.count != call.count {
-                return false;
-            }
-            let mut left = *conversations;
-            if !hand_on(p, &mut left, call.conversations, head.talks, call.count) {
-                return false;
-            }
-            all_over(p, map, &left)
+impl Setting<'_> {
+    // The conversations after a start, with the new one last, if what is handed on is what the process begins with.
+    fn after_start(&self, conversations: &Conversations, call: &Call) -> Option<Conversations>
+        requires { call.now.conversations + call.now.count ≤ length self.now.rows.words.now }
+        ensures { Of self.now.rows (λ g. length (stand conversations.now) < 16 →
+            StartSays g (stand conversations.now) call.now.process (listed self.now.rows.words.now call.now) call.now.expressions result) }
+    {
+        let (head, points) = beginning(&self.rows, call.process)?;
+        if call.expressions != head.numbers {
+            return None;
         }
+        let (new, wanted) = points.split_first()?;
+        let mut left = conversations.hand_on(listed(self.rows.words, call), wanted)?;
+        left.add(self.rows.other(*new)?)?;
+        Some(left)
     }
-}
 
-pub(crate) fn look_at_start(
-    p: &[u32],
-    map: &Map,
-    conversations: &Conversations,
-    call: &Call,
-    depth: u32,
-    variables: u32,
-    root: bool,
-) -> Course
-    requires { call.now.conversations + call.now.count ≤ length p.now }
-    ensures behind { CourseFrom p.now call.now.numbers result }
-    ensures says { StartLooks p.now map.now call.now depth variables root (stand conversations.now) result }
-{
-    match all_variables_there(p, call.numbers, call.expressions, depth, variables) {
-        None => Course::Careless,
-        Some(next) => match after_start(p, map, conversations, call) {
-            None => Course::Careless,
-            Some(left) => Course::On(next, left),
-        },
+    // Whether becoming a process keeps: it gets what it begins with, what is left is over, and process 0 becomes only itself.
+    fn becomes_well(&self, conversations: &Conversations, call: &Call) -> bool
+        requires { call.now.conversations + call.now.count ≤ length self.now.rows.words.now }
+        ensures { Of self.now.rows (λ g.
+            result ≡ becomes_well g self.now.root (stand conversations.now) call.now.process (listed self.now.rows.words.now call.now) call.now.expressions) }
+    {
+        let Some((head, points)) = beginning(&self.rows, call.process) else {
+            return false;
+        };
+        let Some(left) = conversations.hand_on(listed(self.rows.words, call), points) else {
+            return false;
+        };
+        call.expressions == head.numbers
+            && self.root == (call.process == 0)
+            && left.all_over(&self.rows)
     }
-}
 
-pub(crate) fn look_at_become(
-    p: &[u32],
-    map: &Map,
-    conversations: &Conversations,
-    call: &Call,
-    depth: u32,
-    variables: u32,
-    root: bool,
-) -> Course
-    requires { call.now.conversations + call.now.count ≤ length p.now }
-    ensures behind { CourseFrom p.now call.now.numbers result }
-    ensures says { BecomeLooks p.now map.now call.now depth variables root (stand conversations.now) result }
-{
-    match all_variables_there(p, call.numbers, call.expressions, depth, variables) {
-        None => Course::Careless,
-        Some(end) => {
-            if becomes_well(p, map, conversations, call, root) {
-                return Course::Kept(end);
-            }
-            Course::Careless
-        }
+    pub(crate) fn start(
+        &self,
+        conversations: &Conversations,
+        call: &Call,
+        depth: u32,
+    ) -> Option<Course>
+        requires { call.now.conversations + call.now.count ≤ length self.now.rows.words.now }
+        ensures behind { CourseFrom self.now.rows.words.now call.now.numbers result }
+        ensures says { StartLooks self.now call.now depth (stand conversations.now) result }
+    {
+        let next = self.all_variables_there(call.numbers, call.expressions, depth)?;
+        Some(Course::On(next, self.after_start(conversations, call)?))
+    }
+
+    pub(crate) fn become_another(
+        &self,
+        conversations: &Conversations,
+        call: &Call,
+        depth: u32,
+    ) -> Option<Course>
+        requires { call.now.conversations + call.now.count ≤ length self.now.rows.words.now }
+        ensures behind { CourseFrom self.now.rows.words.now call.now.numbers result }
+        ensures says { BecomeLooks self.now call.now depth (stand conversations.now) result }
+    {
+        let end = self.all_variables_there(call.numbers, call.expressions, depth)?;
+        self.becomes_well(conversations, call)
+            .then_some(Course::Kept(end))
     }
 }

@@ -1,11 +1,10 @@
-// What an action comes to when it is looked at.
+// What an action that may keep to the conversations comes to when it is looked at.
 use crate::conversations::Conversations;
 
-// It does not keep to the conversations; it does, and ends before a place; it is for what stands at a place to say,
-// with the conversations where they are then; or two ways part, the first of which begins at a place, and both are.
+// It keeps to them, and ends before a place; it is for what stands at a place to say, with the conversations where they
+// are then; or two ways part, the first of which begins at a place, and both are.
 #[derive(Clone, Copy)]
 pub enum Course {
-    Careless,
     Kept(usize),
     On(usize, Conversations),
     Parted(usize, Conversations, Conversations),

@@ -2,6 +2,7 @@
 #![tactic(auto)]
 
 mod actions;
+mod beginning;
 mod calls;
 mod conversations;
 mod course;
@@ -9,7 +10,7 @@ mod handing;
 mod moves;
 mod points;
 mod program;
-mod standing;
+mod setting;
 mod variables;
 mod walk;
 

@@ -1,90 +1,51 @@
 // Whether a program that was read keeps to its conversations.
-ghost use Rattle.std.specs.Prelude.{◌≡◌, ℕ, ◌+◌, ◌≤◌, List, ◌++◌, length, drop};
-ghost use Rattle.std.proofs.Math.Option.{some};
+ghost use Rattle.std.specs.Prelude.{◌≡◌};
 ghost use Rattle.judging.specs.Program.{ProcessKeeps};
-ghost use Rattle.judging.specs.Standing.{stand};
-ghost use Rattle.model.specs.Keeps.{begins, all_keep, root, kept};
-ghost use Rattle.model.specs.Program.{nth, Process, Program};
-ghost use Rattle.rows.specs.Mapped.{Known};
+ghost use Rattle.model.specs.Keeps.{then, all_keep, root, kept};
+ghost use Rattle.model.specs.Program.{nth};
+ghost use Rattle.rows.specs.Mapped.{Of};
 
-use crate::conversations::Conversations;
+use crate::beginning::{beginning, begun};
 use crate::points::points_keep;
-use crate::walk::keeps_from;
-use rows::decode::Head;
-use rows::lookup::process_of;
-use rows::map::Map;
-
-// The conversations with which a process begins.
-fn beginning(p: &[u32], head: &Head) -> Conversations
-    requires { head.now.talks + head.now.count ≤ length p.now }
-    ensures { (ts x : List ℕ) → length ts ≡ head.now.count → length ts ≤ 16 → drop head.now.talks p.now ≡ ts ++ x → stand result ≡ begins ts }
-{
-    let mut all = Conversations::none();
-    'each: for k in 0..head.count {
-        if !all.add(p[head.talks + k]) {
-            return all;
-        }
-    }
-    all
-}
+use crate::setting::Setting;
+use rows::lookup::Rows;
 
 // Whether a process keeps to its conversations.
-fn process_keeps(p: &[u32], map: &Map, process: u32) -> bool
-    ensures { (g : Program) (q : Process) → Known p.now map.now g → nth g.procs process ≡ some q → result ≡ ProcessKeeps g process q }
+fn process_keeps(rows: &Rows<'_>, process: u32) -> bool
+    ensures { Of rows.now (λ g. result ≡ then (nth g.procs process) (ProcessKeeps g process)) }
 {
-    match process_of(p, map, process) {
-        None => false,
-        Some(head) => {
-            let begun = beginning(p, &head);
-            match keeps_from(p, map, head.body, begun, 256, head.variables, process == 0) {
-                None => false,
-                Some(_end) => true,
-            }
-        }
-    }
+    let Some((head, points)) = beginning(rows, process) else {
+        return false;
+    };
+    let Some(conversations) = begun(points) else {
+        return false;
+    };
+    let setting = Setting {
+        rows: *rows,
+        variables: head.variables,
+        root: process == 0,
+    };
+    setting.keeps_from(head.body, conversations, 256).is_some()
 }
 
 // Whether all processes do.
-fn processes_keep(p: &[u32], map: &Map) -> bool
-    ensures { (g : Program) → Known p.now map.now g → result ≡ all_keep g 0 g.procs }
+fn processes_keep(rows: &Rows<'_>) -> bool
+    ensures { Of rows.now (λ g. result ≡ all_keep g 0 g.procs) }
 {
-    let mut process = 0;
-    'each: while process < map.process_count {
-        if process >= 64 {
-            return false;
-        }
-        if !process_keeps(p, map, process as u32) {
-            return false;
-        }
-        process += 1;
-    }
-    true
+    (0..rows.map.processes.count as u32).all(|process| process_keeps(rows, process))
 }
 
 // Whether process 0 is there and begins without conversations and numbers.
-fn root_keeps(p: &[u32], map: &Map) -> bool
-    ensures { (g : Program) → Known p.now map.now g → result ≡ root g }
+fn root_keeps(rows: &Rows<'_>) -> bool
+    ensures { Of rows.now (λ g. result ≡ root g) }
 {
-    match process_of(p, map, 0) {
-        None => false,
-        Some(head) => {
-            if head.count != 0 {
-                return false;
-            }
-            head.numbers == 0
-        }
-    }
+    rows.process(0)
+        .is_some_and(|head| head.count == 0 && head.numbers == 0)
 }
 
-// Whether a program keeps to its conversations, from its rows and its map.
-pub fn program_keeps(p: &[u32], map: &Map) -> bool
-    ensures { (g : Program) → Known p.now map.now g → result ≡ kept g }
+// Whether a program keeps to its conversations, from its rows.
+pub fn program_keeps(rows: &Rows<'_>) -> bool
+    ensures { Of rows.now (λ g. result ≡ kept g) }
 {
-    if !root_keeps(p, map) {
-        return false;
-    }
-    if !points_keep(p, map) {
-        return false;
-    }
-    processes_keep(p, map)
+    root_keeps(rows) && points_keep(rows) && processes_keep(rows)
 }

@@ -4,182 +4,69 @@ ghost use Rattle.judging.specs.Following.{CourseBehind, FollowSays, WalkSays};
 ghost use Rattle.judging.specs.Judging.{Behind};
 ghost use Rattle.judging.specs.Standing.{stand};
 
-use crate::actions::{
-    look_at_choose, look_at_give, look_at_if, look_at_offer, look_at_set, look_at_show,
-    look_at_stop, look_at_take,
-};
-use crate::calls::{look_at_become, look_at_start};
 use crate::conversations::Conversations;
 use crate::course::Course;
+use crate::setting::Setting;
 use rows::decode::{Instruction, instruction_at};
-use rows::map::Map;
 
-// What the action at a place comes to, with n variables, in process 0 or another.
-fn follow(
-    p: &[u32],
-    map: &Map,
-    at: usize,
-    conversations: &Conversations,
-    depth: u32,
-    variables: u32,
-    root: bool,
-) -> Course
-    ensures behind { CourseBehind p.now at result }
-    ensures says { FollowSays p.now map.now at depth variables root (stand conversations.now) result }
-{
-    match instruction_at(p, at) {
-        None => Course::Careless,
-        Some(instruction) => match instruction {
-            Instruction::Stop => look_at_stop(
-                p,
-                map,
-                conversations,
-                at + 1,
-                depth,
-                variables,
-                root,
-            ),
+impl Setting<'_> {
+    // What the action at a place comes to, if it may keep to the conversations.
+    fn follow(&self, at: usize, conversations: &Conversations, depth: u32) -> Option<Course>
+        ensures behind { CourseBehind self.now.rows.words.now at result }
+        ensures says { FollowSays self.now at depth (stand conversations.now) result }
+    {
+        match instruction_at(self.rows.words, at)? {
+            Instruction::Stop => self.stop(conversations, at + 1),
             Instruction::Give {
                 conversation,
                 value,
-            } => look_at_give(
-                p,
-                map,
-                conversations,
-                conversation,
-                value,
-                depth,
-                variables,
-                root,
-            ),
+            } => self.give(conversations, conversation, value, depth),
             Instruction::Take {
                 conversation,
                 variable,
                 next,
-            } => look_at_take(
-                p,
-                map,
-                conversations,
-                conversation,
-                variable,
-                next,
-                depth,
-                variables,
-                root,
-            ),
+            } => self.take(conversations, conversation, variable, next),
             Instruction::Choose {
                 conversation,
                 way,
                 next,
-            } => look_at_choose(
-                p,
-                map,
-                conversations,
-                conversation,
-                way,
-                next,
-                depth,
-                variables,
-                root,
-            ),
+            } => self.choose(conversations, conversation, way, next),
             Instruction::Offer {
                 conversation,
                 first,
-            } => look_at_offer(
-                p,
-                map,
-                conversations,
-                conversation,
-                first,
-                depth,
-                variables,
-                root,
-            ),
-            Instruction::Set { variable, value } => look_at_set(
-                p,
-                map,
-                conversations,
-                variable,
-                value,
-                depth,
-                variables,
-                root,
-            ),
-            Instruction::If { condition } => look_at_if(
-                p,
-                map,
-                conversations,
-                condition,
-                depth,
-                variables,
-                root,
-            ),
-            Instruction::Show { value } => look_at_show(
-                p,
-                map,
-                conversations,
-                value,
-                depth,
-                variables,
-                root,
-            ),
-            Instruction::Start { call } => look_at_start(
-                p,
-                map,
-                conversations,
-                &call,
-                depth,
-                variables,
-                root,
-            ),
-            Instruction::Become { call } => look_at_become(
-                p,
-                map,
-                conversations,
-                &call,
-                depth,
-                variables,
-                root,
-            ),
-        },
+            } => self.offer(conversations, conversation, first),
+            Instruction::Set { variable, value } => self.set(conversations, variable, value, depth),
+            Instruction::If { condition } => self.part(conversations, condition, depth),
+            Instruction::Show { value } => self.show(conversations, value, depth),
+            Instruction::Start { call } => self.start(conversations, &call, depth),
+            Instruction::Become { call } => self.become_another(conversations, &call, depth),
+        }
     }
-}
 
-// Whether what stands at a place keeps to the conversations; if it does, the place behind it.
-pub(crate) fn keeps_from(
-    p: &[u32],
-    map: &Map,
-    at: usize,
-    conversations: Conversations,
-    depth: u32,
-    variables: u32,
-    root: bool,
-) -> Option<usize>
-    ensures behind { Behind p.now at result }
-    ensures says { WalkSays p.now map.now at depth variables root (stand conversations) result }
-{
-    let mut here = at;
-    let mut current = conversations;
-    let mut deep = depth;
-    'walk: loop {
-        match follow(p, map, here, &current, deep, variables, root) {
-            Course::Careless => return None,
-            Course::Kept(end) => return Some(end),
-            Course::On(next, after) => {
-                here = next;
-                current = after;
-            }
-            Course::Parted(first, one, two) => {
-                if deep == 0 {
-                    return None;
+    // Whether what stands at a place keeps to the conversations; if it does, the place behind it.
+    pub(crate) fn keeps_from(
+        &self,
+        at: usize,
+        conversations: Conversations,
+        depth: u32,
+    ) -> Option<usize>
+        ensures behind { Behind self.now.rows.words.now at result }
+        ensures says { WalkSays self.now at depth (stand conversations) result }
+    {
+        let mut here = at;
+        let mut current = conversations;
+        let mut deep = depth;
+        loop {
+            match self.follow(here, &current, deep)? {
+                Course::Kept(end) => return Some(end),
+                Course::On(next, after) => {
+                    here = next;
+                    current = after;
                 }
-                match keeps_from(p, map, first, one, deep - 1, variables, root) {
-                    None => return None,
-                    Some(next) => {
-                        here = next;
-                        current = two;
-                        deep -= 1;
-                    }
+                Course::Parted(first, one, two) => {
+                    deep = deep.checked_sub(1)?;
+                    here = self.keeps_from(first, one, deep)?;
+                    current = two;
                 }
             }
         }

@@ -47,9 +47,6 @@ point_to s i (Takes m) w = let o : i + 1 < length s = omega arith in record { ro
 point_to s i (Chooses m n) w = let o : i + 2 < length s = omega arith in record { rows = drop_three s i o ∙ cc; within = omega arith }
 point_to s i (Offers m n) w = let o : i + 2 < length s = omega arith in record { rows = drop_three s i o ∙ cc; within = omega arith }
 
-pub points_none : (s table : List ℕ) (i : ℕ) → PointsAt s table i 0 i
-points_none s table i = record { them = []; many = refl; rows = refl; places = λ k p h. absurd (let b = nth_below [] k h in omega arith); within = λ h. h }
-
 module _ {s table : List ℕ} {i k j : ℕ} (a : PointsAt s table i k j) where
   points_more : (kind : PointKind) → PointWords s j kind → k < length table → PointsAt s (set_list table k j) i (k + 1) (j + length (row_p (said kind)))
   points_more kind w room =

@@ -1,5 +1,5 @@
 -- Processes one after the other up to the end of the rows, and the whole program, exactly.
-use Rattle.std.proofs.Common.{◌≡◌, ℕ, suc, ◌+◌, ◌-◌, ◌<◌, ◌≤◌, ◌≢◌, ◌⊎◌, List, [], ◌∷◌, ◌++◌, length, get_or, take as front, drop, set, sym, refl, ap, ◌∙◌, subst, inl, inr, append-nil, arith, length-append, length-drop, drop_of_length-le, length-take, get_or-drop, get_or-set_other, get_or-take, get_or-set_same, drop_at}
+use Rattle.std.proofs.Common.{◌≡◌, ℕ, suc, ◌+◌, ◌-◌, ◌<◌, ◌≤◌, ◌≢◌, ◌⊎◌, List, [], ◌∷◌, ◌++◌, length, get_or, take as front, drop, set, sym, refl, ap, ◌∙◌, subst, inl, inr, append-nil, arith, length-append, length-drop, length-take, get_or-drop, get_or-set_other, get_or-take, get_or-set_same, drop_at}
 use mathlib.Core.Option.{some}
 use native.Mathlib.Decide.{dec_le}
 use Rattle.rows.specs.Reading.{SameBelow}
@@ -37,17 +37,6 @@ pub record Processed (s places second : List ℕ) (i k j : ℕ) : Type 0 where
   pub at : (m : ℕ) (p : Process) → nth them m ≡ some p → ProcessAt s second (get_or places m 0) p × (get_or places m 0 + length (row_r p) ≤ j)
   pub few : k ≤ 64
   pub within : j ≤ length s
-
-pub processed_none : (s places second : List ℕ) (i : ℕ) → i ≤ length s → Processed s places second i 0 i
-processed_none s places second i h = record {
-  them = [];
-  many = refl;
-  rows = refl;
-  fine = tt;
-  at = λ m p h. absurd (let b = nth_below [] m h in omega arith);
-  few = omega arith;
-  within = h;
-}
 
 module _ {s places second : List ℕ} {i k j : ℕ} (a : Processed s places second i k j) where
   processed_on : {second' : List ℕ} {l : ℕ} → k < 64 → k < length places → SameBelow j second second' → ProcessTo s second' j l → Processed s (set places k j) second' i (k + 1) l
@@ -88,18 +77,6 @@ module _ {s places second : List ℕ} {i k j : ℕ} (a : Processed s places seco
   processed_more {places'} {second'} {k'} {l} wide add same b =
       subst (λ (n : ℕ). Processed s places' second' i n l) (sym add.1)
       (subst (λ ps. Processed s ps second' i (k + 1) l) (sym add.2) (processed_on add.0 (omega arith) same b))
-
-  pub processed_all : length s ≤ j → ProcessesAt s places second i k
-  processed_all h =
-      let e : drop j s ≡ [] = drop_of_length-le s h in
-      record {
-        them = a.them;
-        many = a.many;
-        few = a.few;
-        rows = a.rows ∙ (ap (λ y. row_rs a.them ++ y) e ∙ append-nil (row_rs a.them));
-        fine = a.fine;
-        at = λ m p h. (a.at m p h).0;
-      }
 
   -- whatever processes are written from i to the end, one more of them stands here
   pub record OneMore (ps : List Process) : Type 0 where

@@ -4,6 +4,8 @@
 ghost use Rattle.std.specs.Prelude.{◌≡◌, IfSome};
 ghost use Rattle.rows.specs.Decode.{instruction_at, call_at, term_at, point_at, head_at, Words, CallWords, TermWords, PointWords, HeadWords};
 
+use crate::narrow::{leaf_at, talk_at};
+
 // What a process does.
 #[derive(Clone, Copy, PartialEq, Eq, Debug)]
 pub enum Instruction {
@@ -97,30 +99,10 @@ pub fn instruction_at(p: &[u32], at: usize) -> Option<Instruction>
     ensures is { result ≡ instruction_at p.now at }
     ensures words { IfSome result (λ x. Words p.now at x) }
 {
-    if at >= p.len() {
-        return None;
-    }
+    let code = *p.get(at)?;
     let left = p.len() - at;
-    match p[at] {
+    match code {
         0 => Some(Instruction::Stop),
-        1 if left > 1 => Some(Instruction::Give {
-            conversation: p[at + 1],
-            value: at + 2,
-        }),
-        2 if left > 2 => Some(Instruction::Take {
-            conversation: p[at + 1],
-            variable: p[at + 2],
-            next: at + 3,
-        }),
-        3 if left > 2 => Some(Instruction::Choose {
-            conversation: p[at + 1],
-            way: p[at + 2],
-            next: at + 3,
-        }),
-        4 if left > 1 => Some(Instruction::Offer {
-            conversation: p[at + 1],
-            first: at + 2,
-        }),
         5 if left > 1 => Some(Instruction::Set {
             variable: p[at + 1],
             value: at + 2,
@@ -133,7 +115,7 @@ pub fn instruction_at(p: &[u32], at: usize) -> Option<Instruction>
         9 => Some(Instruction::Become {
             call: call_at(p, at)?,
         }),
-        _ => None,
+        _ => talk_at(p, at),
     }
 }
 
@@ -142,15 +124,9 @@ fn call_at(p: &[u32], at: usize) -> Option<Call>
     ensures is { result ≡ call_at p.now at }
     ensures words { IfSome result (λ x. CallWords p.now at x) }
 {
-    if at >= p.len() {
-        return None;
-    }
-    let left = p.len() - at;
-    if left < 4 {
-        return None;
-    }
+    let room = p.len().checked_sub(at)?.checked_sub(4)?;
     let count = p[at + 2] as usize;
-    if left - 4 < count {
+    if room < count {
         return None;
     }
     Some(Call {
@@ -167,31 +143,17 @@ pub fn term_at(p: &[u32], at: usize) -> Option<Term>
     ensures is { result ≡ term_at p.now at }
     ensures words { IfSome result (λ x. TermWords p.now at x) }
 {
-    if at >= p.len() {
-        return None;
-    }
-    let left = p.len() - at;
-    match p[at] {
-        0 if left > 1 => Some(Term::Number(p[at + 1])),
-        1 if left > 1 => Some(Term::Variable(p[at + 1])),
-        2 => Some(Term::Pair {
-            operator: Operator::Sum,
-            first: at + 1,
-        }),
-        3 => Some(Term::Pair {
-            operator: Operator::Difference,
-            first: at + 1,
-        }),
-        4 => Some(Term::Pair {
-            operator: Operator::Product,
-            first: at + 1,
-        }),
-        5 => Some(Term::Pair {
-            operator: Operator::Less,
-            first: at + 1,
-        }),
-        _ => None,
-    }
+    let operator = match *p.get(at)? {
+        2 => Operator::Sum,
+        3 => Operator::Difference,
+        4 => Operator::Product,
+        5 => Operator::Less,
+        _ => return leaf_at(p, at),
+    };
+    Some(Term::Pair {
+        operator,
+        first: at + 1,
+    })
 }
 
 // The point at a place, if its words are there.
@@ -199,11 +161,9 @@ pub fn point_at(p: &[u32], at: usize) -> Option<PointKind>
     ensures is { result ≡ point_at p.now at }
     ensures words { IfSome result (λ x. PointWords p.now at x) }
 {
-    if at >= p.len() {
-        return None;
-    }
+    let code = *p.get(at)?;
     let left = p.len() - at;
-    match p[at] {
+    match code {
         0 => Some(PointKind::Over),
         1 if left > 1 => Some(PointKind::Gives(p[at + 1])),
         2 if left > 1 => Some(PointKind::Takes(p[at + 1])),
@@ -218,15 +178,9 @@ pub fn head_at(p: &[u32], at: usize) -> Option<Head>
     ensures is { result ≡ head_at p.now at }
     ensures words { IfSome result (λ x. HeadWords p.now at x) }
 {
-    if at >= p.len() {
-        return None;
-    }
-    let left = p.len() - at;
-    if left < 3 {
-        return None;
-    }
+    let room = p.len().checked_sub(at)?.checked_sub(3)?;
     let count = p[at] as usize;
-    if left - 3 < count {
+    if room < count {
         return None;
     }
     Some(Head {

@@ -10,11 +10,9 @@ pub fn talk_at(p: &[u32], at: usize) -> Option<Instruction>
     ensures is { result ≡ talk_at p.now at }
     ensures words { IfSome result (λ x. Words p.now at x) }
 {
-    if at >= p.len() {
-        return None;
-    }
+    let code = *p.get(at)?;
     let left = p.len() - at;
-    match p[at] {
+    match code {
         1 if left > 1 => Some(Instruction::Give {
             conversation: p[at + 1],
             value: at + 2,
@@ -56,11 +54,9 @@ pub fn leaf_at(p: &[u32], at: usize) -> Option<Term>
     ensures is { result ≡ leaf_at p.now at }
     ensures words { IfSome result (λ x. TermWords p.now at x) }
 {
-    if at >= p.len() {
-        return None;
-    }
+    let code = *p.get(at)?;
     let left = p.len() - at;
-    match p[at] {
+    match code {
         0 if left > 1 => Some(Term::Number(p[at + 1])),
         1 if left > 1 => Some(Term::Variable(p[at + 1])),
         _ => None,

@@ -1,26 +1,14 @@
-use Rattle.std.proofs.Common.{refl, arith}
-use Rattle.model.proofs.Lists.{nth_there}
-use Rattle.model.specs.Keeps.{points_fit}
+use Rattle.std.proofs.Common.{length, refl, ◌∙◌, arith, rules, tests}
+use Rattle.std.proofs.lemmas.Iterator.{YieldsList-from_range}
+use Rattle.std.proofs.lemmas.Iterator.Search.{all_from_yields_List}
 use Rattle.judging.specs.Program.{PointFits}
-use Rattle.judging.proofs.ProgramTests.{tested_more, tested_not, tested_all}
+use Rattle.judging.proofs.ProgramTests.{tested}
+use Rattle.model.specs.Program.{nth}
+use Rattle.model.specs.Keeps.{then, points_fit}
 use Rattle.judging.proofs.points.points_keep.Goals as goal
-
-pub each-preserved : goal.each-preserved
-each-preserved c g known =
-    let n = known.mapped.point_count in
-    let x = nth_there g.points c.each.point (omega arith) in
-    tested_more (PointFits g) (points_fit g) (λ i. refl) (λ i y ys. refl) g.points c.each.point (c.each.invariant g known) x.0 x.1 (c.if-not-point_fits.ensures g x.0 known x.1)
-
-pub returns-then-point-ge256 : goal.returns-then-point-ge256
-returns-then-point-ge256 c g known = let n = known.mapped.point_count in let m = known.reads.points in absurd (omega arith)
-
-pub returns-then-not-point_fits : goal.returns-then-not-point_fits
-returns-then-not-point_fits c g known =
-    let n = known.mapped.point_count in
-    let x = nth_there g.points c.each.point (omega arith) in
-    tested_not (PointFits g) (points_fit g) (λ i. refl) (λ i y ys. refl) g.points c.each.point (c.each.invariant g known) x.0 x.1 (c.if-not-point_fits.ensures g x.0 known x.1)
 
 pub returns : goal.returns
 returns c g known =
     let n = known.mapped.point_count in
-    tested_all (PointFits g) (points_fit g) (λ i. refl) (λ i y ys. refl) g.points c.each.point (c.each.invariant g known) (omega arith)
+    all_from_yields_List (λ i. then (nth g.points i) (PointFits g i)) _ _ c.all.result c.all.ensures.ran (YieldsList-from_range 0 c.args.rows.now.map.now.points.count (length g.points) refl (omega arith)) (λ x b q k. search (rules, tests))
+    ∙ tested (PointFits g) (points_fit g) (λ i. refl) (λ i x xs. refl) g.points

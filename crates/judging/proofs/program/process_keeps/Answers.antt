@@ -1,11 +1,10 @@
-use Rattle.std.proofs.Common.{true, false, eqb, Some, None, refl}
-use Rattle.judging.proofs.ProgramTests.{process_says}
+use Rattle.std.proofs.Common.{◌∙◌}
+use Rattle.judging.proofs.ProgramTests.{process_crowded, process_says}
 use Rattle.judging.proofs.program.process_keeps.Goals as goal
 
-pub returns-in-None-keeps_from : goal.returns-in-None-keeps_from
-returns-in-None-keeps_from c g q known is =
-    process_says c.args.p.now c.args.map.now g c.args.process c.in-Some.head q c.beginning-begun.result (eqb c.args.process 0) None false known is (c.in-Some.ensures.is g known) c.beginning-begun.ensures refl c.in-None-keeps_from.ensures.says (λ x k v. v)
+pub returns-in_default-begun : goal.returns-in_default-begun
+returns-in_default-begun c g known = absurd (process_crowded known (c.in-Some.ensures g known) c.in_default-begun.ensures)
 
-pub returns-in-Some-keeps_from : goal.returns-in-Some-keeps_from
-returns-in-Some-keeps_from c g q known is =
-    process_says c.args.p.now c.args.map.now g c.args.process c.in-Some.head q c.beginning-begun.result (eqb c.args.process 0) (Some c.in-Some-keeps_from._end) true known is (c.in-Some.ensures.is g known) c.beginning-begun.ensures refl c.in-Some-keeps_from.ensures.says (λ x k v. v.0)
+pub returns : goal.returns
+returns c g known =
+    c.is_some.ensures ∙ process_says known (c.in-Some.ensures g known) c.in-Some-begun.conversations c.keeps_from.result c.in-Some-begun.ensures c.keeps_from.ensures.says

@@ -1,23 +1,28 @@
 -- What is said of a run, from how it ended.
-use Rattle.std.proofs.Common.{◌≡◌, ℕ, ◌+◌, ◌*◌, ◌<◌, ◌≤◌, true, false, List, [], length, refl, ◌∙◌, arith}
+use Rattle.std.proofs.Common.{◌≡◌, ℕ, ◌+◌, ◌*◌, ◌<◌, ◌≤◌, true, false, List, [], length, sym, refl, ◌∙◌, subst, arith}
 use Rattle.model.specs.Program.{Program}
 use Rattle.model.specs.Steps.{State, running, stopped, spent, Configuration, here, begin}
 use Rattle.model.specs.Keeps.{kept}
 use Rattle.model.specs.Rows.{Reads}
+use Rattle.rows.specs.declared.lookup.Rows.{Rows}
+use Rattle.rows.specs.Mapped.{Mapped}
+use Rattle.rows.specs.Sections.{RowsOf}
 use Rattle.turns.specs.Holding.{Holding}
 use Rattle.turns.specs.Turning.{Oddness, shared, crammed}
 use Rattle.engine.specs.Outs.{SomeAt}
-use Rattle.engine.specs.Ending.{Midway, Finished}
+use Rattle.engine.specs.declared.step.Run.{Run}
+use Rattle.engine.specs.Ending.{Midway}
 use Rattle.engine.proofs.WholeLaws.{some_worker, at_rest_empty, at_once}
 use Rattle.model.proofs.Lists.{nth_below}
 use Rattle.exploring.specs.declared.answers.Explored.{Explored}
 use Rattle.exploring.specs.declared.answers.Explored.TheVariants.{Stopped, Spent, Jammed, Crowded, Wide, Unread, Few}
 use Rattle.exploring.specs.declared.answers.Left.{Left}
+use Rattle.looking.specs.Looking.{Rests}
 use Rattle.exploring.specs.Table.{Told}
 use Rattle.exploring.proofs.KeptLaws.{not_kept, kept_jams, kept_wide}
-use Rattle.exploring.specs.Exploring.{RunSays, ExploreSays, ExplorePost, TellsOf, Tells}
+use Rattle.exploring.specs.Exploring.{RunSays, RunsOut, ExploreSays, ExplorePost, TellsOf, Tells}
 
-module _ (s m procs : List ℕ) (count total : ℕ) (before : List Left) (a : Configuration) (h : Holding s m procs count a) where
+module _ (s m : List ℕ) (procs : List (List ℕ)) (count total : ℕ) (before : List Left) (a : Configuration) (h : Holding s m procs count a) where
   pub tells_spent : SomeAt procs count spent true → TellsOf s a total before before (Spent total)
   tells_spent t = (refl, some_worker s m procs count a h spent true t, refl)
 
@@ -39,24 +44,24 @@ module _ (s m procs : List ℕ) (count total : ℕ) (before : List Left) (a : Co
       stands stopped x y = refl
       stands spent x y = absurd (x refl)
 
-module _ (s m : List ℕ) (g : Program) (most : ℕ) (old procs shown : List ℕ) (count total : ℕ) (a : Configuration) (before left : List Left) where
-  pub told_end : (r : Explored) → Finished s m g most old procs shown count total a → Tells s procs count total before left r → RunSays s g most old shown before left a r
-  told_end r f t = go r (t m f.now f.holding)
+module _ (s m : List ℕ) (g : Program) (most : ℕ) (old shown : List ℕ) (k : Run) (a : Configuration) (before left : List Left) where
+  pub told_end : (r : Explored) → length k.processes.now ≡ most → Rests s m g old shown k a → Tells s k before left r → RunSays s g most old shown before left a r
+  told_end r long f t = go r (t m f.now f.holding)
     where
       few : length f.now.workers ≤ most
       few = let x = f.few in let y = f.holding.many in omega arith
 
-      go : (r : Explored) → TellsOf s f.now total before left r → RunSays s g most old shown before left a r
-      go (Stopped k) x = (record { end = f.now; steps = f.steps; still = f.still; few = few; written = f.written; count = x.0 ∙ f.total_is; says = x.1 }, x.2)
-      go (Spent k) x = (record { end = f.now; steps = f.steps; still = f.still; few = few; written = f.written; count = x.0 ∙ f.total_is; says = x.1 }, x.2)
-      go (Jammed k n) x = record { end = f.now; steps = f.steps; still = f.still; few = few; written = f.written; count = x.0 ∙ f.total_is; says = x.1 }
+      go : (r : Explored) → TellsOf s f.now k.total before left r → RunSays s g most old shown before left a r
+      go (Stopped n) x = (record { end = f.now; steps = f.steps; still = f.still; few = few; written = f.written; count = x.0 ∙ f.total_is; says = x.1 }, x.2)
+      go (Spent n) x = (record { end = f.now; steps = f.steps; still = f.still; few = few; written = f.written; count = x.0 ∙ f.total_is; says = x.1 }, x.2)
+      go (Jammed n l) x = record { end = f.now; steps = f.steps; still = f.still; few = few; written = f.written; count = x.0 ∙ f.total_is; says = x.1 }
       go Crowded x = absurd x
       go Wide x = absurd x
       go Unread x = absurd x
       go Few x = absurd x
 
 -- where something is odd, there is somebody
-module _ (s m : List ℕ) (g : Program) (most : ℕ) (old procs shown : List ℕ) (count total : ℕ) (a : Configuration) where
+module _ (s m : List ℕ) (g : Program) (most : ℕ) (old : List ℕ) (procs : List (List ℕ)) (shown : List ℕ) (count total : ℕ) (a : Configuration) where
   pub some_there : (d : Midway s m g most old procs shown count total a) → Oddness g d.now → 0 < count
   some_there d (shared i j w v e ne n k r t x y) = let l = nth_below d.now.workers i n in let z = d.holding.many in omega arith
   some_there d (crammed i w n r c) = let l = nth_below d.now.workers i n in let z = d.holding.many in omega arith
@@ -108,3 +113,11 @@ module _ (s : List ℕ) (most turns : ℕ) (old : List ℕ) (before : List Left)
       not_few Wide x e = let z : ◌≡◌ {A = ℕ} 0 1 = cc in omega arith
       not_few Unread x e = x
       not_few Few x e = x
+
+  pub explored_rows : (shown : List ℕ) (left : List Left) (r : Explored) → (words < 4096 + 128 * most → ⊥) → (rows : Rows) → RowsOf s rows → RunsOut rows.words.now rows.map.now most turns old shown before left r →
+      ExplorePost s most turns old shown before left words r
+  explored_rows shown left r h rows is t =
+      let g = is.program in
+      let back = sym is.words in
+      let says = t g (subst (λ (x : List ℕ). Reads x g) back is.known.reads) (subst (λ (x : List ℕ). Mapped x g rows.map.now) back is.known.mapped) in
+      explored shown left r h g is.known.reads (subst (λ (x : List ℕ). RunSays x g most old shown before left (begin g turns) r) is.words says)

@@ -1,5 +1,5 @@
 -- The rows of a table, from the words.
-use Rattle.std.proofs.Common.{◌≡◌, ℕ, zero, suc, ◌+◌, ◌<◌, ◌≤◌, Bool, true, false, List, [], ◌∷◌, ◌++◌, length, take as take_first, drop, set as set_at, Some, None, Option as Maybe, sym, refl, ap, ◌∙◌, subst, inl, inr, append-nil, add-one, arith, length-append, length-set}
+use Rattle.std.proofs.Common.{rules, ◌≡◌, ℕ, zero, suc, ◌+◌, ◌<◌, ◌≤◌, Bool, true, false, List, [], ◌∷◌, ◌++◌, length, take as take_first, drop, set as set_at, Some, None, Option as Maybe, sym, refl, ap, ◌∙◌, subst, inl, inr, append-nil, add-one, arith, length-append, length-set}
 use mathlib.Core.Option.{Option, some, none}
 use Rattle.model.specs.Program.{nth, or, bit, Action, stop, give, take, choose, offer, set, if, show, start, become}
 use Rattle.model.specs.Steps.{Endpoint, State, running, stopped, spent, Worker, Configuration, end}
@@ -7,11 +7,11 @@ use Rattle.model.specs.Rows.{row_a}
 use Rattle.model.specs.Picture.{Holds as HoldsAnEnd}
 use Rattle.model.specs.Waiting.{awaits, WaitsAt, WaitsFor, Hops}
 use Rattle.records.specs.declared.process.End.{End}
-use Rattle.records.specs.Records.{record_at, endpoint}
+use Rattle.records.specs.Records.{record_at, endpoint, viewed}
 use Rattle.queues.specs.Lines.{facing}
 use Rattle.turns.specs.Holding.{Holds, Holding}
 use Rattle.turns.specs.Scheduling.{wish, end_of, waiting}
-use Rattle.jams.specs.Told.{HoldsEnd, HolderIs, NoneBefore}
+use Rattle.jams.specs.Told.{WaitsAt as WaitsAtEnd, HoldsEnd, HolderIs, NoneBefore}
 use Rattle.engine.specs.Outs.{Same}
 use Rattle.model.proofs.Keeping.{or_open}
 use Rattle.model.proofs.Lists.{nth_below, nth_there, nth_snoc_split}
@@ -19,7 +19,7 @@ use Rattle.queues.specs.Lines.{option}
 use Rattle.exploring.specs.declared.answers.Left.{Left}
 use Rattle.exploring.specs.Circles.{hop, hops}
 use Rattle.exploring.proofs.CircleLaws.{some_inj, first_row, first_row_is, hops_first}
-use Rattle.exploring.specs.Table.{if_running, running_at, running_below, all_running, FirstHolder, Row_is, Rows, Told}
+use Rattle.exploring.specs.Table.{if_running, running_at, running_below, all_running, FirstHolder, HeldBy, Row_is, Rows, Told}
 
 no_some : {j : ℕ} → ◌≡◌ {A = Maybe ℕ} None (Some j) → ⊥
 no_some e = let z : ◌≡◌ {A = ℕ} 0 1 = cc in omega arith
@@ -54,17 +54,17 @@ waits_at ws i w e n r z = go (wish w.todo) refl z
 waits_for : (ws : List Worker) (i j : ℕ) (w : Worker) (e : Endpoint) → nth ws i ≡ some w → w.state ≡ running → waiting w ≡ some e → e.side < 2 → HoldsAnEnd ws j (facing e) → WaitsFor ws i j
 waits_for ws i j w e n r z small h = record { near = e; far = facing e; line = refl; sides = λ x. omega arith; waits = waits_at ws i w e n r z; holds = h }
 
-module _ (s m procs : List ℕ) (count : ℕ) (a : Configuration) (h : Holding s m procs count a) where
+module _ (s m : List ℕ) (procs : List (List ℕ)) (count : ℕ) (a : Configuration) (h : Holding s m procs count a) where
   worker : (i : ℕ) → i < count → (w : Worker) × (nth a.workers i ≡ some w)
   worker i lt = let l = h.many in nth_there a.workers i (omega arith)
 
   -- who holds an end
-  holds_one : (j : ℕ) (x : Endpoint) → j < count → HoldsEnd procs j x true → HoldsAnEnd a.workers j x
+  holds_one : (j : ℕ) (x : Endpoint) → j < count → HoldsEnd (record_at procs j) x true → HoldsAnEnd a.workers j x
   holds_one j x lt t =
       let w = worker j lt in
       (w.0, w.1, (t.0, or_open (nth w.0.ends t.0) x (ap (λ es. end es t.0) (sym (h.each j w.0 w.1).ends) ∙ t.1)))
 
-  holds_none : (j : ℕ) (x : Endpoint) → HoldsEnd procs j x false → HoldsAnEnd a.workers j x → ⊥
+  holds_none : (j : ℕ) (x : Endpoint) → HoldsEnd (record_at procs j) x false → HoldsAnEnd a.workers j x → ⊥
   holds_none j x out (w, n, (c, e)) = out c (ap (λ es. end es c) (h.each j w n).ends ∙ ap (or none) e)
 
   below : (j : ℕ) (x : Endpoint) → HoldsAnEnd a.workers j x → j < count
@@ -81,8 +81,8 @@ module _ (s m procs : List ℕ) (count : ℕ) (a : Configuration) (h : Holding s
     stands : drop at s ≡ row_a (worker i lt).0.todo ++ (h.each i (worker i lt).0 (worker i lt).1).behind
     stands = ap (λ n. drop n s) is_at ∙ (h.each i (worker i lt).0 (worker i lt).1).rows
 
-    pub row_nowhere : ((n : List ℕ) (w : Worker) → Holds s n (record_at procs i) w → none ≡ waiting w) → Row_is s a.workers i (record { process = i; place = at; end = None; holder = None })
-    row_nowhere z = record {
+    pub row_nowhere : (o : Maybe End) → o ≡ None → WaitsAtEnd s (record_at procs i) o → Row_is s a.workers i (record { process = i; place = at; end = o; holder = None })
+    row_nowhere o none' z = record {
       worker = (worker i lt).0;
       there = (worker i lt).1;
       runs = runs;
@@ -90,13 +90,13 @@ module _ (s m procs : List ℕ) (count : ℕ) (a : Configuration) (h : Holding s
       behind = (h.each i (worker i lt).0 (worker i lt).1).behind;
       rows = stands;
       waits = z m (worker i lt).0 (h.each i (worker i lt).0 (worker i lt).1);
-      held = refl;
+      held = subst (λ (x : Maybe End). HeldBy a.workers x None) (sym none') refl;
       follows = λ j e. absurd (no_some e);
     }
 
-    pub row_waits : (e f : End) (who : Maybe ℕ) → ((n : List ℕ) (w : Worker) → Holds s n (record_at procs i) w → some (endpoint e) ≡ waiting w) → endpoint f ≡ facing (endpoint e) → HolderIs procs count (endpoint f) who → NoneBefore procs (endpoint f) who →
-        Row_is s a.workers i (record { process = i; place = at; end = Some e; holder = who })
-    row_waits e f who z is t n = record {
+    pub row_waits : (o : Maybe End) (e : End) → o ≡ Some e → (f : End) (who : Maybe ℕ) → WaitsAtEnd s (record_at procs i) o → endpoint f ≡ facing (endpoint e) → HolderIs procs count (endpoint f) who → NoneBefore procs (endpoint f) who →
+        Row_is s a.workers i (record { process = i; place = at; end = o; holder = who })
+    row_waits o e some' f who z is t n = record {
       worker = (worker i lt).0;
       there = (worker i lt).1;
       runs = runs;
@@ -104,8 +104,9 @@ module _ (s m procs : List ℕ) (count : ℕ) (a : Configuration) (h : Holding s
       behind = (h.each i (worker i lt).0 (worker i lt).1).behind;
       rows = stands;
       waits = z m (worker i lt).0 (h.each i (worker i lt).0 (worker i lt).1);
-      held = first;
-      follows = λ j w. waits_for a.workers i j (worker i lt).0 (endpoint e) (worker i lt).1 runs (sym (z m (worker i lt).0 (h.each i (worker i lt).0 (worker i lt).1))) (side_small e) (its_holder j who w first);
+      held = subst (λ (x : Maybe End). HeldBy a.workers x who) (sym some') first;
+      follows = λ j w.
+          waits_for a.workers i j (worker i lt).0 (endpoint e) (worker i lt).1 runs (sym (z m (worker i lt).0 (h.each i (worker i lt).0 (worker i lt).1)) ∙ ap viewed some') (side_small e) (its_holder j who w first);
     }
       where
         first : FirstHolder a.workers (facing (endpoint e)) who
@@ -116,13 +117,15 @@ module _ (s m procs : List ℕ) (count : ℕ) (a : Configuration) (h : Holding s
         its_holder j (Some k) w f = let z : k ≡ j = cc in subst (λ (o : ℕ). HoldsAnEnd a.workers o (facing (endpoint e))) z f.0
 
   -- whether a process is one of those that are left
-  pub is_left : (i : ℕ) → i < count → Same (record_at procs i).state running true → running_at i (nth a.workers i) ≡ i ∷ []
-  is_left i lt r =
+  pub is_left : (i : ℕ) → i < count → (b : Bool) → b ≡ true → Same (record_at procs i).state running b → running_at i (nth a.workers i) ≡ i ∷ []
+  is_left i lt true is r =
       let w = worker i lt in
       ap (running_at i) w.1 ∙ ap (if_running i) (sym (h.each i w.0 w.1).state ∙ r)
+  is_left i lt false is r = absurd (search rules)
 
-  pub not_left : (i : ℕ) → i < count → Same (record_at procs i).state running false → running_at i (nth a.workers i) ≡ []
-  not_left i lt r =
+  pub not_left : (i : ℕ) → i < count → (b : Bool) → b ≡ false → Same (record_at procs i).state running b → running_at i (nth a.workers i) ≡ []
+  not_left i lt true is r = absurd (search rules)
+  not_left i lt false is r =
       let w = worker i lt in
       ap (running_at i) w.1 ∙ out w.0.state (λ z. r ((h.each i w.0 w.1).state ∙ z))
     where
@@ -179,10 +182,11 @@ module _ (s : List ℕ) (ws : List Worker) (is : List ℕ) (i : ℕ) (old left :
       rest' : (k : ℕ) → length (is ++ (i ∷ [])) ≤ k → nth left k ≡ nth old k
       rest' k l = let b = length-append is (i ∷ []) in t.rest k (omega arith)
 
-pub below_next : (s : List ℕ) (ws : List Worker) (i n : ℕ) (old left : List Left) → (n ≡ length (running_below ws i ++ running_at i (nth ws i))) × Rows s ws (running_below ws i ++ running_at i (nth ws i)) old left →
-    (n ≡ length (running_below ws (i + 1))) × Rows s ws (running_below ws (i + 1)) old left
-below_next s ws i n old left t =
-    subst (λ (k : ℕ). (n ≡ length (running_below ws k)) × Rows s ws (running_below ws k) old left) (sym (add-one i)) t
+pub below_next : (s : List ℕ) (ws : List Worker) (i n n' : ℕ) (old left left' : List Left) → n' ≡ n → left' ≡ left → (n ≡ length (running_below ws i ++ running_at i (nth ws i))) × Rows s ws (running_below ws i ++ running_at i (nth ws i)) old left →
+    (n' ≡ length (running_below ws (i + 1))) × Rows s ws (running_below ws (i + 1)) old left'
+below_next s ws i n n' old left left' count same t =
+    let z = sym (ap (running_below ws) (add-one i)) in
+    (count ∙ (t.0 ∙ ap length z), subst (λ (l : List Left). Rows s ws (running_below ws (i + 1)) old l) (sym same) (subst (λ (k : List ℕ). Rows s ws k old left) z t.1))
 
 -- going from row to row
 row_at : {A : Type 0} (xs : List A) (n k : ℕ) {x : A} → nth (take_first n xs) k ≡ some x → (k < n) × (nth xs k ≡ some x)

@@ -66,15 +66,11 @@ pub record Told (s : List ℕ) (ws : List Worker) (old left : List Left) (n : �
   pub walks : (m i k : ℕ) → hops (take n left) m i ≡ some k → Hops ws m i k
 
 -- what is said of every configuration that the words hold
-abbrev pub OfEach : List ℕ → List ℕ → ℕ → (List Worker → Type 0) → Type 0
+abbrev pub OfEach : List ℕ → List (List ℕ) → ℕ → (List Worker → Type 0) → Type 0
 OfEach s procs count P = (second : List ℕ) (a : Configuration) → Holding s second procs count a → P a.workers
 
-abbrev pub RowOf : List ℕ → List ℕ → ℕ → ℕ → Left → Type 0
+abbrev pub RowOf : List ℕ → List (List ℕ) → ℕ → ℕ → Left → Type 0
 RowOf s procs count i row = OfEach s procs count (λ ws. Row_is s ws i row)
 
-abbrev pub RowFilled : List ℕ → List ℕ → ℕ → ℕ → List Left → List Left → ℕ → ℕ → Type 0
-RowFilled s procs count i left left' n n' = OfEach s procs count (λ ws. (is : List ℕ) (old : List Left) → n ≡ length is → Rows s ws is old left →
-    (n' ≡ length (is ++ running_at i (nth ws i))) × Rows s ws (is ++ running_at i (nth ws i)) old left')
-
-abbrev pub Filled : List ℕ → List ℕ → ℕ → List Left → List Left → ℕ → Type 0
+abbrev pub Filled : List ℕ → List (List ℕ) → ℕ → List Left → List Left → ℕ → Type 0
 Filled s procs count left left' n = OfEach s procs count (λ ws. Told s ws left left' n)

@@ -1,5 +1,5 @@
 // Whether somebody who is left waits for himself, by way of others.
-ghost use Rattle.std.specs.Prelude.{◌≡◌, ◌+◌, ◌<◌, ◌≤◌, length};
+ghost use Rattle.std.specs.Prelude.{◌≡◌, ℕ, ◌<◌};
 ghost use Rattle.queues.specs.Lines.{option};
 ghost use Rattle.exploring.specs.Circles.{hop, BackIs, CircleIs};
 
@@ -9,9 +9,9 @@ use crate::answers::Left;
 pub fn holder_of(left: &[Left], i: u32) -> Option<u32>
     ensures { option result ≡ hop left.now i }
 {
-    'rows: for k in 0..left.len() {
-        if left[k].process == i {
-            return left[k].holder;
+    for row in left {
+        if row.process == i {
+            return row.holder;
         }
     }
     None
@@ -22,16 +22,14 @@ pub fn comes_back(left: &[Left], i: u32) -> bool
     ensures { BackIs left.now i result }
 {
     let mut at = i;
-    'hops: for n in 0..left.len() {
-        match holder_of(left, at) {
-            None => return false,
-            Some(j) => {
-                if j == i {
-                    return true;
-                }
-                at = j;
-            }
+    for _ in left {
+        let Some(j) = holder_of(left, at) else {
+            return false;
+        };
+        if j == i {
+            return true;
         }
+        at = j;
     }
     false
 }
@@ -41,9 +39,9 @@ pub fn comes_back(left: &[Left], i: u32) -> bool
 pub fn circle(left: &[Left]) -> Option<u32>
     ensures { CircleIs left.now result }
 {
-    'rows: for k in 0..left.len() {
-        if comes_back(left, left[k].process) {
-            return Some(left[k].process);
+    for row in left {
+        if comes_back(left, row.process) {
+            return Some(row.process);
         }
     }
     None

@@ -34,10 +34,10 @@ fn explore_in(
         return Explored::Few;
     }
     let mut map = Map::empty();
-    if !read(program, &mut map) {
+    let Some(rows) = read(program, &mut map) else {
         return Explored::Unread;
-    }
-    run_out(program, &map, most, turns, order, shown, work, left)
+    };
+    run_out(&rows, most, turns, order, shown, work, left)
 }
 
 // Runs a program, whether or not it keeps, with at most so many processes and so many turns, in an order that is drawn from

@@ -41,7 +41,8 @@ pub fn look_on(rows: &Rows<'_>, run: &mut Run<'_>, shown: &mut [u32]) -> Result<
     requires readable { Readable rows.now.words.now rows.now.map.now }
     requires some { 0 < run.old.count }
     requires going { Going rows.now.words.now rows.now.map.now shown.old run.old }
-    ensures { ComesTo rows.now.words.now rows.now.map.now shown.old shown.new run.old run.new result }
+    ensures room { length run.new.processes.now ≡ length run.old.processes.now }
+    ensures comes { ComesTo rows.now.words.now rows.now.map.now shown.old shown.new run.old run.new result }
 {
     while look_once(rows, run, shown)? {}
     Ok(())

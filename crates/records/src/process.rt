@@ -1,5 +1,5 @@
 // The records of processes in lent words, each of 64: nothing above this file knows where in a record a field stands.
-ghost use Rattle.std.specs.Prelude.{◌≡◌, ◌<◌, ◌≤◌, length};
+ghost use Rattle.std.specs.Prelude.{◌≡◌, ◌^◌, ◌<◌, ◌≤◌, length};
 ghost use Rattle.model.specs.Steps.{end};
 ghost use Rattle.records.specs.Records.{record_of, moved, assigned, ended, cleared, begins, spends, viewed};
 ghost use Rattle.records.specs.Records.{with_end, with_number, state_is, state_of, end_of};
@@ -36,7 +36,8 @@ pub enum Standing {
 
 // Where in the rows a process is.
 pub fn place(of: &Record) -> usize
-    ensures { result ≡ (record_of of.now).place }
+    ensures place { result ≡ (record_of of.now).place }
+    ensures code { result < 2 ^ 32 }
 {
     of[PLACE] as usize
 }

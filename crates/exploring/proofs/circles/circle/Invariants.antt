@@ -6,5 +6,5 @@ use Rattle.exploring.specs.Circles.{ComesBackSoon}
 use Rattle.exploring.proofs.circles.circle.Given as goal
 
 -- one comes back to none of the processes that were looked at
-abbrev pub invariant-rows : goal.invariant-rows
-invariant-rows l = (j : ℕ) → j < l.k → (row : Left) → nth l.left j ≡ some row → ComesBackSoon l.left row.process → ⊥
+abbrev pub invariant-loop-row : goal.invariant-loop-row
+invariant-loop-row l = (j : ℕ) → j < l.row-index → (row : Left) → nth l.left j ≡ some row → ComesBackSoon l.left row.process → ⊥

@@ -4,5 +4,5 @@ use Rattle.exploring.specs.Circles.{hops}
 use Rattle.exploring.proofs.circles.comes_back.Given as goal
 
 -- so many hops lead here, and none of them came back
-abbrev pub invariant-hops : goal.invariant-hops
-invariant-hops l = (hops l.left l.n l.i ≡ some l.at) × ((m : ℕ) → m < l.n → hops l.left (suc m) l.i ≡ some l.i → ⊥)
+abbrev pub invariant-loop : goal.invariant-loop
+invariant-loop l = (hops l.left l.index l.i ≡ some l.at) × ((m : ℕ) → m < l.index → hops l.left (suc m) l.i ≡ some l.i → ⊥)

@@ -1,38 +1,65 @@
-use Rattle.std.proofs.Common.{refl, arith}
+use Rattle.std.proofs.Common.{ℕ, Err, length, refl, ◌∙◌, subst}
 use Rattle.model.specs.Steps.{begin}
+use Rattle.turns.specs.declared.turn.Trouble.{Trouble}
+use Rattle.engine.specs.declared.set_up.Unready.{Unready}
+use Rattle.engine.specs.Setting.{SetUp}
+use Rattle.engine.specs.Ending.{Ending, Telling, TooMany}
+use Rattle.exploring.specs.Exploring.{RunSays}
 use Rattle.exploring.proofs.ExploreLaws.{told_end, some_there, at_begin, no_process}
 use Rattle.exploring.proofs.runs.run_out.Goals as goal
+
+pub returns-in-Err-Crowded : goal.returns-in-Err-Crowded
+returns-in-Err-Crowded c g reads mapped =
+    at_begin c.args.rows.now.words.now g c.args.most c.args.turns c.args.shown.now c.args.left.now
+    (subst (λ (e : Unready). SetUp c.args.rows.now.words.now c.args.rows.now.map.now c.args.most c.args.turns (Err e)) c.in-Err-Crowded.field-0-is c.in-Err-Crowded.ensures g reads mapped)
+
+pub returns-in-Err-Empty : goal.returns-in-Err-Empty
+returns-in-Err-Empty c g reads mapped =
+    no_process c.args.rows.now.words.now g c.args.most c.args.turns c.args.shown.now c.args.left.now
+    (subst (λ (e : Unready). SetUp c.args.rows.now.words.now c.args.rows.now.map.now c.args.most c.args.turns (Err e)) c.in-Err-Empty.field-0-is c.in-Err-Empty.ensures g reads mapped)
 
 pub run_on-requires : goal.run_on-requires
 run_on-requires c =
     let r = c.requires.readable in
     record {
-      words = c.requires.words;
-      room = c.in-Ready.ensures.0;
-      held = record {
-        program = r.program;
-        configuration = begin r.program c.args.turns;
-        old = c.args.shown.now;
-        reads = r.reads;
-        mapped = r.mapped;
-        running = c.in-Ready.ensures.1 r.program c.args.shown.now r.reads r.mapped;
-      };
+      program = r.program;
+      configuration = begin r.program c.args.turns;
+      old = c.args.shown.now;
+      reads = r.reads;
+      mapped = r.mapped;
+      running = c.in-Ok.ensures.1 r.program c.args.shown.now r.reads r.mapped;
     }
+
+pub returns-in-Err-Crowded-run_on : goal.returns-in-Err-Crowded-run_on
+returns-in-Err-Crowded-run_on c g reads mapped =
+    let s = c.args.rows.now.words.now in
+    let m = c.args.rows.now.map.now.second in
+    let a = begin g c.args.turns in
+    let old = c.args.shown.now in
+    let run = c.in-Ok.ensures.1 g old reads mapped in
+    let e = c.in-Err-Crowded-run_on.ensures in
+    let is = c.in-Err-Crowded-run_on.field-0-is in
+    let many = subst (λ (e : Trouble). Ending s m g old c.run_on.new.shown a c.run_on.new.self (Err e)) is (e.ends.1 g a old reads mapped run) in
+    let told = subst (λ (e : Trouble). Telling s m g old c.run_on.new.shown a c.run_on.new.self (Err e)) is (e.tells g a old reads mapped run) in
+    (subst (λ (n : ℕ). TooMany g n a) (e.ends.0 ∙ c.in-Ok.ensures.0) many, told, refl)
+
+pub returns-in-Ok-run_on : goal.returns-in-Ok-run_on
+returns-in-Ok-run_on c g reads mapped =
+    told_end c.args.rows.now.words.now c.args.rows.now.map.now.second g c.args.most c.args.shown.now c.run_on.new.shown c.run_on.new.self (begin g c.args.turns) c.args.left.now c.tell.new.left c.tell.result
+    (c.in-Ok-run_on.ensures.ends.0 ∙ c.in-Ok.ensures.0) (c.in-Ok-run_on.ensures.ends.1 g (begin g c.args.turns) c.args.shown.now reads mapped (c.in-Ok.ensures.1 g c.args.shown.now reads mapped)) c.tell.ensures
 
 pub look_to_end-requires : goal.look_to_end-requires
 look_to_end-requires c =
     let r = c.requires.readable in
-    let few = c.in-Odd.ensures.odd_fits in
-    let t = c.in-Odd.ensures.tells r.program (begin r.program c.args.turns) c.args.shown.now r.reads r.mapped (c.in-Ready.ensures.1 r.program c.args.shown.now r.reads r.mapped) in
+    let a = begin r.program c.args.turns in
+    let t = subst (λ (e : Trouble). Telling c.args.rows.now.words.now c.args.rows.now.map.now.second r.program c.args.shown.now c.run_on.new.shown a c.run_on.new.self (Err e)) c.in-Err-Odd.field-0-is
+    (c.in-Err-Odd.ensures.tells r.program a c.args.shown.now r.reads r.mapped (c.in-Ok.ensures.1 r.program c.args.shown.now r.reads r.mapped)) in
     record {
-      words = c.requires.words;
-      some = some_there c.args.p.now c.args.map.now.second r.program c.args.most c.args.shown.now c.run_on.new.processes c.run_on.new.shown c.in-Odd.count c.in-Odd.total (begin r.program c.args.turns) t.0 t.1;
-      fits = few;
-      code = omega arith;
-      records = omega arith;
+      readable = r;
+      some = some_there c.args.rows.now.words.now c.args.rows.now.map.now.second r.program (length c.run_on.new.self.processes.now) c.args.shown.now c.run_on.new.self.processes.now c.run_on.new.shown c.run_on.new.self.count c.run_on.new.self.total a t.0 t.1;
       going = record {
         program = r.program;
-        configuration = begin r.program c.args.turns;
+        configuration = a;
         old = c.args.shown.now;
         reads = r.reads;
         mapped = r.mapped;
@@ -40,24 +67,10 @@ look_to_end-requires c =
       };
     }
 
-pub returns-in-Crowded : goal.returns-in-Crowded
-returns-in-Crowded c g reads mapped = at_begin c.args.p.now g c.args.most c.args.turns c.args.shown.now c.args.left.now (c.in-Crowded.ensures g reads mapped)
-
-pub returns-in-Empty : goal.returns-in-Empty
-returns-in-Empty c g reads mapped = no_process c.args.p.now g c.args.most c.args.turns c.args.shown.now c.args.left.now (c.in-Empty.ensures g reads mapped)
-
-pub returns-in-Crowded-run_on : goal.returns-in-Crowded-run_on
-returns-in-Crowded-run_on c g reads mapped =
-    let e = c.in-Crowded-run_on.ensures in
-    let run = c.in-Ready.ensures.1 g c.args.shown.now reads mapped in
-    (e.ends g (begin g c.args.turns) c.args.shown.now reads mapped run, e.tells g (begin g c.args.turns) c.args.shown.now reads mapped run, refl)
-
-pub returns-in-Still : goal.returns-in-Still
-returns-in-Still c g reads mapped =
-    told_end c.args.p.now c.args.map.now.second g c.args.most c.args.shown.now c.run_on.new.processes c.run_on.new.shown c.in-Still.count c.in-Still.total (begin g c.args.turns) c.args.left.now c.tell.new.left c.tell.result
-    (c.in-Still.ensures.ends g (begin g c.args.turns) c.args.shown.now reads mapped (c.in-Ready.ensures.1 g c.args.shown.now reads mapped)) c.tell.ensures
-
-pub returns-in-Odd : goal.returns-in-Odd
-returns-in-Odd c g reads mapped =
-    let t = c.in-Odd.ensures.tells g (begin g c.args.turns) c.args.shown.now reads mapped (c.in-Ready.ensures.1 g c.args.shown.now reads mapped) in
-    c.look_to_end.ensures g (begin g c.args.turns) c.args.shown.now reads mapped t.0
+pub returns-in-Err-Odd : goal.returns-in-Err-Odd
+returns-in-Err-Odd c g reads mapped =
+    let a = begin g c.args.turns in
+    let t = subst (λ (e : Trouble). Telling c.args.rows.now.words.now c.args.rows.now.map.now.second g c.args.shown.now c.run_on.new.shown a c.run_on.new.self (Err e)) c.in-Err-Odd.field-0-is
+    (c.in-Err-Odd.ensures.tells g a c.args.shown.now reads mapped (c.in-Ok.ensures.1 g c.args.shown.now reads mapped)) in
+    subst (λ (n : ℕ). RunSays c.args.rows.now.words.now g n c.args.shown.now c.look_to_end.new.shown c.args.left.now c.look_to_end.new.left (begin g c.args.turns) c.look_to_end.result)
+    (c.in-Err-Odd.ensures.ends.0 ∙ c.in-Ok.ensures.0) (c.look_to_end.ensures g (begin g c.args.turns) c.args.shown.now reads mapped t.0)

@@ -9,12 +9,12 @@ use Rattle.looking.proofs.AdvanceLaws.{doing_at, stop_moves, nothing_stuck, wait
 use Rattle.looking.proofs.advance.advance.Goals as goal
 
 pub returns-in_default : goal.returns-in_default
-returns-in_default c = (refl, nothing_stuck c.args.rows.now.words.now c.args.rows.now.map.now c.args.processes.now c.args.i c.place.result c.place.ensures c.in_default.ensures.is)
+returns-in_default c = (refl, nothing_stuck c.args.rows.now.words.now c.args.rows.now.map.now c.args.processes.now c.args.i c.place.result c.place.ensures.place c.in_default.ensures.is)
 
 pub returns-in-Stop : goal.returns-in-Stop
 returns-in-Stop c =
     stop_moves c.args.rows.now.words.now c.args.rows.now.map.now c.args.processes.now c.args.i _ c.args.count c.requires.there c.requires.runs
-    (doing_at c.args.rows.now.words.now c.args.processes.now c.args.i c.place.result c.in-Some.what Stop c.place.ensures c.in-Some.ensures.is c.in-Stop.is c.in-Some.ensures.words)
+    (doing_at c.args.rows.now.words.now c.args.processes.now c.args.i c.place.result c.in-Some.what Stop c.place.ensures.place c.in-Some.ensures.is c.in-Stop.is c.in-Some.ensures.words)
     (kept_set c.args.processes.now c.args.i c.halt.new.process (ended (record_at c.args.processes.now c.args.i) stopped) (omega arith) c.halt.ensures)
 
 pub returns-in-Set : goal.returns-in-Set
@@ -35,6 +35,6 @@ returns-in-Show c =
 pub returns-in_default-what : goal.returns-in_default-what
 returns-in_default-what c = (
   refl,
-  waits_stuck c.args.rows.now.words.now c.args.rows.now.map.now c.args.processes.now c.args.i c.place.result c.place.ensures c.in-Some.what c.in-Some.ensures.is
+  waits_stuck c.args.rows.now.words.now c.args.rows.now.map.now c.args.processes.now c.args.i c.place.result c.place.ensures.place c.in-Some.what c.in-Some.ensures.is
       c.in_default-what.not-Stop c.in_default-what.not-Set c.in_default-what.not-If c.in_default-what.not-Show c.in_default-what.not-Start c.in_default-what.not-Become,
 )

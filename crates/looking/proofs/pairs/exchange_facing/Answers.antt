@@ -16,7 +16,7 @@ pub returns-in_default-instruction_at : goal.returns-in_default-instruction_at
 returns-in_default-instruction_at c = (
   refl,
   nothing_apart c.args.rows.now.words.now c.args.rows.now.map.now.second c.args.processes.now c.args.i c.args.j (endpoint c.in-Some.e) (endpoint c.in-Some-waits_at.d) c.in-Some.ensures c.in-Some-waits_at.ensures
-      (λ n w h. something c.args.rows.now.words.now c.args.rows.now.map.now.second c.args.processes.now c.args.i c.args.j n w h c.place.result c.place.ensures c.in_default-instruction_at.ensures.is),
+      (λ n w h. something c.args.rows.now.words.now c.args.rows.now.map.now.second c.args.processes.now c.args.i c.args.j n w h c.place.result c.place.ensures.place c.in_default-instruction_at.ensures.is),
 )
 
 pub returns : goal.returns

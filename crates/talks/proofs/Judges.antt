@@ -1,21 +1,27 @@
 -- The answers of judge: from what the reader and the judge of processes say; and that they exclude one another.
-use Rattle.std.proofs.Common.{◌≡◌, ℕ, true, false, List, sym, refl, ap, ◌∙◌, arith}
+use Rattle.std.proofs.Common.{◌≡◌, ℕ, Bool, true, false, List, sym, refl, ap, ◌∙◌, subst, arith}
 use Rattle.talks.specs.declared.answers.Judged.{Judged}
 use Rattle.talks.specs.declared.answers.Judged.TheVariants.{Keeps, Careless, NoProgram}
 use Rattle.talks.specs.Once.{Kept}
 use Rattle.talks.specs.Says.{JudgedSays}
-use Rattle.rows.specs.declared.map.Map.{Map}
-use Rattle.rows.specs.Mapped.{Known, Mapped}
+use Rattle.rows.specs.declared.lookup.Rows.{Rows}
+use Rattle.rows.specs.Mapped.{Known, Of}
+use Rattle.rows.specs.Sections.{RowsOf}
 use Rattle.model.specs.Program.{Program}
 use Rattle.model.specs.Keeps.{kept}
 use Rattle.model.specs.Rows.{Reads}
 use Rattle.model.proofs.Writing.{one_program}
 
-pub judged_keeps : (s : List ℕ) (m : Map) → (g : Program) × Reads s g × Mapped s g m → ((g : Program) → Known s m g → true ≡ kept g) → JudgedSays s Keeps
-judged_keeps s m r k = (r.0, r.1, sym (k r.0 (record { reads = r.1; mapped = r.2 })))
+-- the rows that were read are the words of a program, which keeps or does not
+module _ (s : List ℕ) (rows : Rows) (is : RowsOf s rows) where
+  pub known_rows : Known rows.words.now rows.map.now is.program
+  known_rows = subst (λ (x : List ℕ). Known x rows.map.now is.program) (sym is.words) is.known
 
-pub judged_careless : (s : List ℕ) (m : Map) → (g : Program) × Reads s g × Mapped s g m → ((g : Program) → Known s m g → false ≡ kept g) → JudgedSays s Careless
-judged_careless s m r k = (r.0, r.1, sym (k r.0 (record { reads = r.1; mapped = r.2 })))
+  pub judged : (b : Bool) → Of rows (λ g. b ≡ kept g) → (g : Program) × Reads s g × (kept g ≡ b)
+  judged b k = (is.program, is.known.reads, sym (k is.program known_rows))
+
+  pub kept_known : Of rows (λ g. true ≡ kept g) → Kept rows.words.now rows.map.now
+  kept_known k = record { program = is.program; known = known_rows; keeps = sym (k is.program known_rows) }
 
 clash : (s : List ℕ) (g h : Program) → Reads s g → Reads s h → kept g ≡ true → kept h ≡ false → ⊥
 clash s g h rg rh t f =
@@ -35,15 +41,3 @@ judged_only s Careless NoProgram a b = absurd (b a.0 a.1)
 judged_only s NoProgram Keeps a b = absurd (a b.0 b.1)
 judged_only s NoProgram Careless a b = absurd (a b.0 b.1)
 judged_only s NoProgram NoProgram a b = refl
-
--- a program that is judged to keep is known
-pub kept_known : (s : List ℕ) (m : Map) → (g : Program) × Reads s g × Mapped s g m → ((g : Program) → Known s m g → true ≡ kept g) → Kept s m
-kept_known s m r k =
-    let known : Known s m r.0 = record { reads = r.1; mapped = r.2 } in
-    record { program = r.0; known = known; keeps = sym (k r.0 known) }
-
-pub not_keeps : {A : Type 0} → NoProgram ≡ Keeps → A
-not_keeps e = let z : ◌≡◌ {A = ℕ} 0 1 = cc in absurd (omega arith)
-
-pub careless_keeps : {A : Type 0} → Careless ≡ Keeps → A
-careless_keeps e = let z : ◌≡◌ {A = ℕ} 0 1 = cc in absurd (omega arith)

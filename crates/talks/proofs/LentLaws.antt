@@ -1,7 +1,7 @@
 -- A run whose numbers are kept aside, and one that writes them where they are wanted: what they come to.
 use Rattle.std.proofs.Common.{◌≡◌, ℕ, zero, suc, ◌+◌, ◌-◌, ◌*◌, ◌^◌, ◌<◌, ◌≤◌, Bool, true, false, cond, ◌⊎◌, List, [], ◌∷◌, length, take, drop, sym, refl, ap, ◌∙◌, subst, inl, inr, arith}
 use Rattle.rows.specs.declared.map.Map.{Map}
-use Rattle.engine.specs.Running.{overlay, counted}
+use Rattle.engine.specs.Shown.{overlay, counted}
 use Rattle.talks.specs.declared.answers.Ran.{Ran}
 use Rattle.talks.specs.declared.answers.Ran.TheVariants.{Done, Spent, Crowded, Unkept, Unread, OutFull, Few}
 use Rattle.talks.specs.Once.{Kept, Finished, TooMany}

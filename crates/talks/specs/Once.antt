@@ -1,10 +1,9 @@
 -- What one run in lent words comes to.
-use Rattle.std.specs.Prelude.{◌≡◌, ℕ, ◌<◌, ◌≤◌, Bool, true, false, List, length}
+use Rattle.std.specs.Prelude.{◌≡◌, ℕ, ◌<◌, ◌≤◌, Bool, true, false, List, length, Option, MatchOption}
 use Rattle.rows.specs.declared.map.Map.{Map}
 use Rattle.rows.specs.Mapped.{Known}
-use Rattle.engine.specs.Running.{overlay, counted}
-use Rattle.talks.specs.declared.runs.Outcome.{Outcome}
-use Rattle.talks.specs.declared.runs.Outcome.TheVariants.{Still as EndedStill, Crowded}
+use Rattle.engine.specs.declared.whole.Rest.{Rest}
+use Rattle.engine.specs.Shown.{overlay, counted}
 use Rattle.model.specs.Program.{Program}
 use Rattle.model.specs.Steps.{Configuration, Steps, begin}
 use Rattle.model.specs.Keeps.{kept}
@@ -33,6 +32,6 @@ pub record TooMany (g : Program) (most turns : ℕ) : Type 0 where
   pub steps : Steps g (begin g turns) now
   pub many : most < length now.workers
 
-abbrev pub OnceSays : List ℕ → Map → ℕ → ℕ → List ℕ → List ℕ → Outcome → Type 0
-OnceSays s m most turns old shown (EndedStill total out) = (g : Program) → Known s m g → kept g ≡ true → Finished g most turns old shown total out
-OnceSays s m most turns old shown Crowded = (g : Program) → Known s m g → kept g ≡ true → TooMany g most turns
+-- what a run comes to: there are too many processes; or no step is possible any more, with so many numbers shown
+abbrev pub OnceSays : List ℕ → Map → ℕ → ℕ → List ℕ → List ℕ → Option Rest → Type 0
+OnceSays s m most turns old shown r = (g : Program) → Known s m g → kept g ≡ true → MatchOption r (TooMany g most turns) (λ x. Finished g most turns old shown x.total x.spent)

@@ -1,9 +1,8 @@
 // The calls: judge, and go with a fixed or a drawn order, for rows of words.
 #![tactic(auto)]
 
-ghost use Rattle.std.specs.Prelude.{◌≡◌, length};
+ghost use Rattle.std.specs.Prelude.{length};
 ghost use Rattle.model.specs.Theorems.{OneProgram};
-ghost use Rattle.talks.specs.Once.{Kept};
 ghost use Rattle.talks.specs.Runs.{GoPost};
 ghost use Rattle.talks.specs.Says.{JudgedSays, Only};
 
@@ -18,22 +17,6 @@ mod runs;
 
 pub use crate::answers::{Judged, Ran};
 
-// Reads and judges; if the words are a program, the map is that of the program.
-fn examine(program: &[u32], map: &mut Map) -> Judged
-    ensures says { JudgedSays program.now result }
-    ensures one { OneProgram }
-    ensures only { Only program.now result }
-    ensures known { result ≡ Judged.Keeps → Kept program.now map.new }
-{
-    if !read(program, map) {
-        return Judged::NoProgram;
-    }
-    if program_keeps(program, map) {
-        return Judged::Keeps;
-    }
-    Judged::Careless
-}
-
 // Whether the words are a program, and whether it keeps to its conversations. Every slice has an answer, and only one:
 // no two answers are right for one input.
 pub fn judge(program: &[u32]) -> Judged
@@ -42,7 +25,16 @@ pub fn judge(program: &[u32]) -> Judged
     ensures only { Only program.now result }
 {
     let mut map = Map::empty();
-    examine(program, &mut map)
+    match read(program, &mut map) {
+        None => Judged::NoProgram,
+        Some(rows) => {
+            if program_keeps(&rows) {
+                Judged::Keeps
+            } else {
+                Judged::Careless
+            }
+        }
+    }
 }
 
 // Runs in an order, if the words are a program that keeps.
@@ -60,11 +52,13 @@ fn run_in(
         return Ran::Few;
     }
     let mut map = Map::empty();
-    match examine(program, &mut map) {
-        Judged::NoProgram => Ran::Unread,
-        Judged::Careless => Ran::Unkept,
-        Judged::Keeps => run_lent(program, &map, most, turns, shown, work, order),
+    let Some(rows) = read(program, &mut map) else {
+        return Ran::Unread;
+    };
+    if !program_keeps(&rows) {
+        return Ran::Unkept;
     }
+    run_lent(&rows, most, turns, shown, work, order)
 }
 
 // Runs a program that keeps, with at most so many processes and so many turns, in a fixed order. Whatever `work` holds

@@ -1,4 +1,6 @@
-use Rattle.std.proofs.Common.{arith}
+use Rattle.std.proofs.Common.{Err, subst, arith}
+use Rattle.turns.specs.declared.turn.Trouble.{Trouble}
+use Rattle.engine.specs.Whole.{RunsTo}
 use Rattle.talks.proofs.RunLaws.{nothing_odd, finished}
 use Rattle.talks.proofs.runs.run_once.Goals as goal
 
@@ -6,19 +8,20 @@ pub run_whole-requires : goal.run_whole-requires
 run_whole-requires c =
     let k = c.requires.kept in
     let r = c.requires.room in
-    record { words = k.known.reads.words; lent = omega arith; readable = record { program = k.program; reads = k.known.reads; mapped = k.known.mapped } }
+    record { lent = omega arith; readable = record { program = k.program; reads = k.known.reads; mapped = k.known.mapped } }
 
 pub unreachable-requires : goal.unreachable-requires
 unreachable-requires c =
     let k = c.requires.kept in
-    let o = c.in-Odd.ensures k.program k.known.reads k.known.mapped in
-    nothing_odd c.args.program.now k.program k.known.reads k.keeps c.args.turns o.now o.steps o.odd
+    let o = (subst (λ (e : Trouble). RunsTo c.args.rows.now.words.now c.args.rows.now.map.now c.args.most c.args.turns c.args.shown.now c.run_whole.new.shown (Err e)) c.in-Err-Odd.field-0-is c.in-Err-Odd.ensures) k.program k.known.reads k.known.mapped in
+    nothing_odd c.args.rows.now.words.now k.program k.known.reads k.keeps c.args.turns o.now o.steps o.odd
 
-pub returns-in-Crowded : goal.returns-in-Crowded
-returns-in-Crowded c g known keeps =
-    let o = c.in-Crowded.ensures g known.reads known.mapped in
+pub returns-in-Err-Crowded : goal.returns-in-Err-Crowded
+returns-in-Err-Crowded c g known keeps =
+    let o = (subst (λ (e : Trouble). RunsTo c.args.rows.now.words.now c.args.rows.now.map.now c.args.most c.args.turns c.args.shown.now c.run_whole.new.shown (Err e)) c.in-Err-Crowded.field-0-is c.in-Err-Crowded.ensures) g known.reads known.mapped in
     record { now = o.now; steps = o.steps; many = o.many }
 
-pub returns-in-Rest : goal.returns-in-Rest
-returns-in-Rest c g known keeps =
-    finished g c.args.most c.args.turns c.in-Rest._c c.in-Rest.total c.args.shown.now c.run_whole.new.shown c.in-Rest.spent c.in-Rest._w (c.in-Rest.ensures g known.reads known.mapped)
+pub returns-in-Ok : goal.returns-in-Ok
+returns-in-Ok c g known keeps =
+    let r = c.in-Ok.rest in
+    finished g c.args.most c.args.turns r.count r.total c.args.shown.now c.run_whole.new.shown r.spent r.waiting (c.in-Ok.ensures g known.reads known.mapped)

@@ -1,6 +1,6 @@
 -- Words laid one behind the other, and the words of rows.
 use Rattle.std.proofs.Common.{◌≡◌, ℕ, zero, suc, ◌<◌, ◌≤◌, List, [], ◌∷◌, ◌++◌, length, get_or, take, refl, ap, ◌∙◌, subst, append_assoc, arith}
-use Rattle.engine.specs.Running.{overlay, counted}
+use Rattle.engine.specs.Shown.{overlay, counted}
 use Rattle.exploring.specs.declared.answers.Left.{Left}
 use Rattle.embedding.specs.Rows.{row_words, rows_words, Laid}
 

@@ -2,7 +2,7 @@
 use Rattle.std.specs.Prelude.{◌≡◌, ℕ, ◌-◌, ◌^◌, min, List, [], ◌∷◌, ◌++◌, take, Some, None, Option}
 use Rattle.model.specs.Program.{bit}
 use Rattle.records.specs.declared.process.End.{End}
-use Rattle.engine.specs.Running.{overlay, counted}
+use Rattle.engine.specs.Shown.{overlay, counted}
 use Rattle.exploring.specs.declared.answers.Left.{Left}
 use Rattle.exploring.specs.Circles.{CircleIs}
 use Rattle.exploring.specs.Exploring.{ExplorePost}

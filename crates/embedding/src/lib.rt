@@ -2,12 +2,12 @@
 #![tactic(auto)]
 
 ghost use Rattle.std.specs.Prelude.{◌≡◌, length};
-ghost use Rattle.engine.specs.Running.{overlay};
+ghost use Rattle.engine.specs.Shown.{overlay};
 ghost use Rattle.embedding.specs.Codes.{JudgeCode, ran_of, explored_of};
 ghost use Rattle.embedding.specs.Rows.{line_word, side_word, number_word, row_words, rows_words, Laid, ExploredWords};
 ghost use Rattle.talks.specs.Runs.{GoPost};
 
-use engine::step::write_down;
+use engine::shown::write_down;
 use exploring::{End, Explored, Left, circle, explore};
 use talks::{Judged, Ran, go, go_seeded, judge};
 
@@ -25,24 +25,17 @@ pub extern "C" fn talks_judge(program: &[u32]) -> u32
 
 // The number of an answer, and how many numbers were shown: 0 done, 1 spent, 2 crowded, 3 unkept, 4 unread, 5 out full,
 // 6 few. Where none are counted the count is 0.
-fn coded(ran: Ran, count: &mut usize) -> u32
-    ensures { ran_of result count.new ≡ ran }
+fn coded(ran: Ran) -> (u32, usize)
+    ensures { ran_of result.0 result.1 ≡ ran }
 {
-    *count = 0;
     match ran {
-        Ran::Done(k) => {
-            *count = k;
-            0
-        }
-        Ran::Spent(k) => {
-            *count = k;
-            1
-        }
-        Ran::Crowded => 2,
-        Ran::Unkept => 3,
-        Ran::Unread => 4,
-        Ran::OutFull => 5,
-        Ran::Few => 6,
+        Ran::Done(k) => (0, k),
+        Ran::Spent(k) => (1, k),
+        Ran::Crowded => (2, 0),
+        Ran::Unkept => (3, 0),
+        Ran::Unread => (4, 0),
+        Ran::OutFull => (5, 0),
+        Ran::Few => (6, 0),
     }
 }
 
@@ -58,8 +51,9 @@ pub extern "C" fn talks_go(
 ) -> u32
     ensures { GoPost program.now most turns shown.old shown.new (length work.old) (ran_of result count.new) }
 {
-    let ran = go(program, most, turns, shown, work);
-    coded(ran, count)
+    let (code, total) = coded(go(program, most, turns, shown, work));
+    *count = total;
+    code
 }
 
 // Runs in an order drawn from a seed.
@@ -75,8 +69,9 @@ pub extern "C" fn talks_go_seeded(
 ) -> u32
     ensures { GoPost program.now most turns shown.old shown.new (length work.old) (ran_of result count.new) }
 {
-    let ran = go_seeded(program, most, turns, seed, shown, work);
-    coded(ran, count)
+    let (code, total) = coded(go_seeded(program, most, turns, seed, shown, work));
+    *count = total;
+    code
 }
 
 // The word for what is not there.
@@ -103,15 +98,12 @@ fn side_word(end: Option<End>) -> u32
 fn number_word(number: Option<u32>) -> u32
     ensures { result ≡ number_word number }
 {
-    match number {
-        None => NOTHING,
-        Some(n) => n,
-    }
+    number.unwrap_or(NOTHING)
 }
 
 // Writes the five words of a row behind what was written, as far as there is room, and counts them.
-fn put_row(left: &mut [u32], at: usize, row: Left) -> usize
-    ensures { Laid left.old left.new at result (row_words row) }
+fn put_row(left: &mut [u32], at: usize, row: &Left) -> usize
+    ensures { Laid left.old left.new at result (row_words row.now) }
 {
     let a = write_down(left, at, row.process);
     let b = write_down(left, a, row.place);
@@ -125,35 +117,23 @@ fn put_rows(left: &mut [u32], rows: &[Left])
     ensures { left.new ≡ overlay (rows_words rows.now) left.old }
 {
     let mut at = 0;
-    'each: for k in 0..rows.len() {
-        at = put_row(left, at, rows[k]);
+    for row in rows {
+        at = put_row(left, at, row);
     }
 }
 
 // The number of an answer, how many numbers were shown, and how many processes are left.
-fn coded_jam(explored: Explored, count: &mut usize, rows: &mut usize) -> u32
-    ensures { explored_of result count.new rows.new ≡ explored }
+fn coded_jam(explored: Explored) -> (u32, usize, usize)
+    ensures { explored_of result.0 result.1 result.2 ≡ explored }
 {
-    *count = 0;
-    *rows = 0;
     match explored {
-        Explored::Stopped(k) => {
-            *count = k;
-            0
-        }
-        Explored::Spent(k) => {
-            *count = k;
-            1
-        }
-        Explored::Jammed { shown, left } => {
-            *count = shown;
-            *rows = left;
-            2
-        }
-        Explored::Crowded => 3,
-        Explored::Wide => 4,
-        Explored::Unread => 5,
-        Explored::Few => 6,
+        Explored::Stopped(k) => (0, k, 0),
+        Explored::Spent(k) => (1, k, 0),
+        Explored::Jammed { shown, left } => (2, shown, left),
+        Explored::Crowded => (3, 0, 0),
+        Explored::Wide => (4, 0, 0),
+        Explored::Unread => (5, 0, 0),
+        Explored::Few => (6, 0, 0),
     }
 }
 
@@ -181,10 +161,13 @@ pub extern "C" fn talks_explore(
         end: None,
         holder: None,
     }; 200];
-    let explored = explore(program, most, turns, seed, shown, work, &mut table);
-    let code = coded_jam(explored, count, rows);
-    let told = &table[0..(*rows).min(200)];
+    let (code, total, many) = coded_jam(explore(
+        program, most, turns, seed, shown, work, &mut table,
+    ));
+    let told = &table[..many.min(200)];
     put_rows(left, told);
+    *count = total;
+    *rows = many;
     *on = number_word(circle(told));
     code
 }

@@ -5,7 +5,7 @@ use Rattle.embedding.proofs.put_row.Goals as goal
 
 pub returns : goal.returns
 returns c =
-    let row = c.args.row in
+    let row = c.args.row.now in
     let s0 = c.args.left.now in
     let s1 = c.write_down-a.new.shown in
     let s2 = c.write_down-b.new.shown in

@@ -17,10 +17,10 @@ pub struct Named<'a> {
 
 // The process of the program that a place of the rows belongs to.
 pub fn process_of_place(map: &Map, place: usize) -> u32 {
-    let mut found = 0u32;
-    for k in 0..64u32 {
-        if (k as usize) < map.process_count && map.processes[k as usize] as usize <= place {
-            found = k;
+    let mut found = 0;
+    for (k, at) in map.processes.at.iter().take(map.processes.count).enumerate() {
+        if *at as usize <= place {
+            found = k as u32;
         }
     }
     found

@@ -1,20 +1,19 @@
 // What a process is about to do, in words.
-use crate::turn::{Found, find};
+use crate::turn::Found;
 use evaluation::expressions::evaluate;
-use queues::lines::{facing_end, waiter};
-use records::process::{End, end_at, variables};
+use queues::lines::{Line, facing_end, waiter};
+use records::process::{End, Record, end_at, place, variables};
 use rows::decode::{Call, Instruction, instruction_at};
-use rows::map::Map;
+use rows::lookup::Rows;
 use sources::{Failed, Named, process_of_place};
 
-// A run as it is looked at: the program, its map, and the words.
+// A run as it is looked at: the program, its rows, the processes, who waits at the lines, and how many processes there are.
 #[derive(Clone, Copy)]
 pub struct View<'a> {
     pub named: &'a Named<'a>,
-    pub map: &'a Map,
-    pub processes: &'a [u32],
-    pub lines: &'a [u32],
-    // How many processes there are.
+    pub rows: &'a Rows<'a>,
+    pub processes: &'a [Record],
+    pub lines: &'a [Line],
     pub count: usize,
 }
 
@@ -28,52 +27,40 @@ struct Partner {
 impl View<'_> {
     // The end that a conversation of a process is.
     fn end_of(&self, i: u32, conversation: u32) -> Option<End> {
-        let k = i as usize;
-        if self.processes.len() < 64 * k + 64 {
-            return None;
-        }
-        end_at(self.processes, k, conversation)
+        end_at(self.processes.get(i as usize)?, conversation)
     }
 
     // Who waits at the other end of a conversation of a process.
     fn partner(&self, i: u32, conversation: u32) -> Option<Partner> {
-        let Some(end) = self.end_of(i, conversation) else {
-            return None;
-        };
-        if self.lines.len() < 2 * end.line as usize + 2 {
+        let end = self.end_of(i, conversation)?;
+        if end.line as usize >= self.lines.len() {
             return None;
         }
-        match waiter(self.lines, facing_end(end)) {
-            Some(who) => Some(Partner {
-                who,
-                line: end.line,
-            }),
-            None => None,
-        }
+        let who = waiter(self.lines, facing_end(end))?;
+        Some(Partner {
+            who,
+            line: end.line,
+        })
     }
 
     // The value of the expression at a place, for a process.
     fn value(&self, i: u32, at: usize) -> u32 {
-        let k = i as usize;
-        if self.processes.len() < 64 * k + 64 {
-            return 0;
+        match self.processes.get(i as usize) {
+            None => 0,
+            Some(process) => evaluate(self.rows.words, at, 256, variables(process)).value,
         }
-        evaluate(self.named.rows, at, 256, variables(self.processes, k)).value
     }
 
     // What a process is at.
     fn doing(&self, i: u32) -> Option<Instruction> {
-        match find(self.processes, i) {
-            None => None,
-            Some(found) => instruction_at(self.named.rows, found.place),
-        }
+        instruction_at(self.rows.words, place(self.processes.get(i as usize)?))
     }
 
     // Writes the name and the number of a process.
     fn put_process(&self, i: u32, out: &mut String) -> Result<(), Failed> {
-        if let Some(found) = find(self.processes, i) {
+        if let Some(process) = self.processes.get(i as usize) {
             self.named
-                .put_name(process_of_place(self.map, found.place), out)?;
+                .put_name(process_of_place(self.rows.map, place(process)), out)?;
         }
         write!(out, " {i}")?;
         Ok(())
@@ -107,13 +94,7 @@ impl View<'_> {
     // A process that is about to take, if somebody gives.
     fn put_take(&self, i: u32, conversation: u32, out: &mut String) -> Result<(), Failed> {
         if let Some(partner) = self.partner(i, conversation) {
-            if let Some(
-                Instruction::Give {
-                    conversation: _c,
-                    value,
-                },
-            ) = self.doing(partner.who)
-            {
+            if let Some(Instruction::Give { value, .. }) = self.doing(partner.who) {
                 let value = self.value(partner.who, value);
                 self.put_process(i, out)?;
                 write!(out, " takes {value} from ")?;
@@ -142,14 +123,7 @@ impl View<'_> {
     // A process that is about to let somebody choose, if somebody does.
     fn put_offer(&self, i: u32, conversation: u32, out: &mut String) -> Result<(), Failed> {
         if let Some(partner) = self.partner(i, conversation) {
-            if let Some(
-                Instruction::Choose {
-                    conversation: _c,
-                    way,
-                    next: _n,
-                },
-            ) = self.doing(partner.who)
-            {
+            if let Some(Instruction::Choose { way, .. }) = self.doing(partner.who) {
                 self.put_process(i, out)?;
                 write!(out, " goes way {way}, chosen by ")?;
                 return self.put_at(partner, out);
@@ -166,7 +140,7 @@ impl View<'_> {
             return Ok(());
         }
         let number = self.count;
-        let line = self.count.saturating_sub(1);
+        let line = number.saturating_sub(1);
         out.push_str(" starts ")?;
         self.named.put_name(call.process, out)?;
         write!(out, " as process {number}, line {line}")?;
@@ -224,34 +198,27 @@ impl View<'_> {
 
     // What a process that is found so is about to do; nothing where it would only begin to wait.
     pub(crate) fn put_step(&self, i: u32, found: Found, out: &mut String) -> Result<(), Failed> {
-        match instruction_at(self.named.rows, found.place) {
-            None => Ok(()),
-            Some(what) => match what {
-                Instruction::Stop => self.put_stop(i, out),
-                Instruction::Give {
-                    conversation,
-                    value,
-                } => self.put_give(i, conversation, value, out),
-                Instruction::Take {
-                    conversation,
-                    variable: _x,
-                    next: _n,
-                } => self.put_take(i, conversation, out),
-                Instruction::Choose {
-                    conversation,
-                    way,
-                    next: _n,
-                } => self.put_choose(i, conversation, way, out),
-                Instruction::Offer {
-                    conversation,
-                    first: _f,
-                } => self.put_offer(i, conversation, out),
-                Instruction::Set { variable, value } => self.put_set(i, variable, value, out),
-                Instruction::If { condition } => self.put_fork(i, condition, out),
-                Instruction::Show { value } => self.put_show(i, value, out),
-                Instruction::Start { call } => self.put_start(i, found.turns, call, out),
-                Instruction::Become { call } => self.put_become(i, found.turns, call, out),
-            },
+        let Some(what) = instruction_at(self.rows.words, found.place) else {
+            return Ok(());
+        };
+        match what {
+            Instruction::Stop => self.put_stop(i, out),
+            Instruction::Give {
+                conversation,
+                value,
+            } => self.put_give(i, conversation, value, out),
+            Instruction::Take { conversation, .. } => self.put_take(i, conversation, out),
+            Instruction::Choose {
+                conversation,
+                way,
+                ..
+            } => self.put_choose(i, conversation, way, out),
+            Instruction::Offer { conversation, .. } => self.put_offer(i, conversation, out),
+            Instruction::Set { variable, value } => self.put_set(i, variable, value, out),
+            Instruction::If { condition } => self.put_fork(i, condition, out),
+            Instruction::Show { value } => self.put_show(i, value, out),
+            Instruction::Start { call } => self.put_start(i, found.turns, call, out),
+            Instruction::Become { call } => self.put_become(i, found.turns, call, out),
         }
     }
 }

@@ -1,12 +1,16 @@
 // The steps of a run, printed as they are taken.
 use crate::said::View;
-use crate::turn::{Found, find, moved, next_of, take_turn};
+use crate::turn::{Found, look_at, next_of};
 use engine::order::{Order, drawn_order, fixed_order};
-use engine::set_up::{Prepared, set_up};
-use engine::step::{Run, Stepped};
+use engine::set_up::set_up;
+use engine::step::Run;
+use queues::lines::Line;
+use records::process::Record;
+use rows::lookup::Rows;
 use rows::map::Map;
 use rows::read;
 use sources::{Failed, Named, print_full};
+use turns::turn::Trouble;
 
 // Where the engine that is proved for programs that keep gives up on one that does not.
 const ODD: &str =
@@ -28,87 +32,79 @@ fn order_of(seed: Option<u64>) -> Order {
     }
 }
 
-// How a run goes on after a turn: it does; nobody can go on, or there are too many processes; or there is what does not
-// happen where a program keeps to its conversations.
-#[derive(Clone, Copy)]
-enum After {
-    Go(Run),
-    End,
-    Odd,
-}
-
 // Says what a process that is found so is about to do.
 fn say<'x>(
     named: &'x Named<'x>,
-    map: &'x Map,
-    processes: &'x [u32],
-    lines: &'x [u32],
+    rows: &'x Rows<'x>,
+    processes: &'x [Record],
+    lines: &'x [Line],
     count: usize,
     who: u32,
-    found: Found,
+    before: Found,
     said: &mut String,
 ) -> Result<(), Failed> {
     let view = View {
         named,
-        map,
+        rows,
         processes,
         lines,
         count,
     };
-    view.put_step(who, found, said)
+    view.put_step(who, before, said)
 }
 
-// One turn; says the step, if one is taken.
+// One turn; says the step, if one is taken. False where nobody can go on.
 fn said_turn(
     named: &Named<'_>,
-    map: &Map,
-    processes: &mut [u32],
-    lines: &mut [u32],
-    ready: &mut [u32],
-    most: u32,
-    run: Run,
+    rows: &Rows<'_>,
+    run: &mut Run<'_>,
     said: &mut String,
-) -> Result<After, Failed> {
-    let Some(who) = next_of(ready, run) else {
-        return Ok(After::End);
-    };
-    let Some(before) = find(processes, who) else {
-        return Ok(After::End);
-    };
+) -> Result<Result<bool, Trouble>, Failed> {
     said.clear();
-    say(&*named, map, processes, lines, run.count, who, before, said)?;
-    match take_turn(named.rows, map, processes, lines, ready, most, run) {
-        Some(Stepped::Go(next)) => {
-            if !moved(before, processes, who) {
-                said.clear();
-            }
-            Ok(After::Go(next))
-        }
-        Some(Stepped::Odd) => Ok(After::Odd),
-        _ => Ok(After::End),
+    if run.ready.count == 0 {
+        return Ok(Ok(false));
     }
+    let who = next_of(run);
+    let Some(process) = run.processes.get(who as usize) else {
+        return Ok(Ok(false));
+    };
+    let before = look_at(process);
+    say(
+        &*named,
+        &*rows,
+        run.processes,
+        run.lines,
+        run.count,
+        who,
+        before,
+        said,
+    )?;
+    if let Err(trouble) = run.step(rows, &mut []) {
+        return Ok(Err(trouble));
+    }
+    if let Some(process) = run.processes.get(who as usize) {
+        if look_at(process) == before {
+            said.clear();
+        }
+    }
+    Ok(Ok(true))
 }
 
 // All turns of a run.
 fn said_turns(
     rt: &HostRuntime,
     named: &Named<'_>,
-    map: &Map,
-    processes: &mut [u32],
-    lines: &mut [u32],
-    ready: &mut [u32],
-    most: u32,
-    from: Run,
+    rows: &Rows<'_>,
+    run: &mut Run<'_>,
     out: &mut String,
 ) -> Result<(), Failed> {
     let mut said = String::new(rt.alloc());
-    let mut now = from;
     let mut steps = 0u64;
     for _ in 0..u64::MAX {
-        match said_turn(named, map, processes, lines, ready, most, now, &mut said)? {
-            After::Go(next) => now = next,
-            After::End => break,
-            After::Odd => {
+        match said_turn(named, rows, run, &mut said)? {
+            Ok(true) => {}
+            Ok(false) | Err(Trouble::Crowded) => break,
+            Err(Trouble::Odd) => {
                 out.push_str(ODD)?;
                 break;
             }
@@ -131,33 +127,20 @@ pub fn trace_run(
     out: &mut String,
 ) -> Result<(), Failed> {
     let mut map = Map::empty();
-    let n = wanted.most as usize;
-    if named.rows.len() > 16384 || work.len() < 67 * n || !read(named.rows, &mut map) {
+    let Some(rows) = read(named.rows, &mut map) else {
+        return Ok(());
+    };
+    if work.len() < 67 * wanted.most as usize {
         return Ok(());
     }
-    let (processes, others) = work.split_at_mut(64 * n);
-    let (lines, ready) = others.split_at_mut(2 * n);
     match set_up(
-        named.rows,
-        &map,
-        processes,
-        lines,
-        ready,
-        n,
+        &rows,
+        work,
+        wanted.most,
         wanted.turns,
         order_of(wanted.seed),
     ) {
-        Prepared::Ready(run) => said_turns(
-            rt,
-            named,
-            &map,
-            processes,
-            lines,
-            ready,
-            wanted.most,
-            run,
-            out,
-        ),
-        _ => Ok(()),
+        Ok(mut run) => said_turns(rt, named, &rows, &mut run, out),
+        Err(_) => Ok(()),
     }
 }

@@ -10,12 +10,12 @@ use Rattle.rows.specs.Mapped.{Of, ProcessFound}
 use Rattle.judging.specs.declared.conversations.Conversations.{Conversations}
 use Rattle.judging.specs.declared.course.Course.TheVariants.{On}
 use Rattle.judging.specs.declared.setting.Setting.{Setting}
-use Rattle.judging.specs.Following.{words, keeping, listed, StartSays, StartLooks}
+use Rattle.judging.specs.Following.{words, keeping, StartSays, StartLooks}
 use Rattle.judging.specs.Judging.{AllVariablesSay}
 use Rattle.judging.specs.Program.{Begins}
 use Rattle.judging.specs.Standing.{stand}
 use Rattle.judging.proofs.HandingLaws.{hands_length}
-use Rattle.model.specs.Program.{nth, Expression, Program}
+use Rattle.model.specs.Program.{nth, Program}
 use Rattle.model.specs.Rows.{row_a}
 use Rattle.model.specs.Keeps.{At, then, hands, first, rest, oks}
 
@@ -53,25 +53,20 @@ starting : Program → At → ℕ → List ℕ → ℕ → (At → Bool) → Boo
 starting g a f cs many k =
     then (nth g.procs f) (λ p. eqb many p.nums && then (hands a cs (rest p.talks)) (λ b. then (first p.talks) (λ t. then (nth g.other t) (λ u. k (b ++ (some u ∷ []))))))
 
-module _ (w : Setting) (k : Call) (d : ℕ) (a : At) where
-  -- what is said of the listed conversations and of so many numbers is said of those that are written
-  said_of : (cs y : List ℕ) (es : List Expression) → length cs ≡ k.count → drop k.conversations (words w) ≡ cs ++ y → length es ≡ k.expressions → (P : List ℕ → ℕ → Type 0) →
-      P (listed (words w) k) k.expressions → P cs (length es)
-  said_of cs y es lc dc le P p = subst (λ l. P l (length es)) (words_listed (words w) cs y k.conversations k.count lc dc) (subst (P (listed (words w) k)) (sym le) p)
-
-  pub start_careless : Of w.rows (λ g. length a < 16 → StartSays g a k.process (listed (words w) k) k.expressions None) → StartLooks w k d a None
+module _ (w : Setting) (k : Call) (cs : List ℕ) (d : ℕ) (a : At) where
+  pub start_careless : Of w.rows (λ g. length a < 16 → StartSays g a k.process cs k.expressions None) → StartLooks w k cs d a None
   unfolding starting
-  start_careless st g known cs es t x y lc dc le de deeps room =
-      let e = said_of cs y es lc dc le (λ l n. starting g a k.process l n (keeping w g t) ≡ false) (st g known (omega arith) (keeping w g t)) in
+  start_careless st g known es t x le de deeps room =
+      let e = subst (λ (n : ℕ). starting g a k.process cs n (keeping w g t) ≡ false) (sym le) (st g known (omega arith) (keeping w g t)) in
       ap (λ q. oks w.variables es && q) e ∙ and-false (oks w.variables es)
 
   pub start_on : {next : ℕ} (c : Conversations) → AllVariablesSay (words w) k.numbers d w.variables k.expressions (Some next) →
-      Of w.rows (λ g. length a < 16 → StartSays g a k.process (listed (words w) k) k.expressions (Some c)) → StartLooks w k d a (Some (On next c))
+      Of w.rows (λ g. length a < 16 → StartSays g a k.process cs k.expressions (Some c)) → StartLooks w k cs d a (Some (On next c))
   unfolding starting
-  start_on {next} c vars st g known cs es t x y lc dc le de deeps room =
+  start_on {next} c vars st g known es t x le de deeps room =
       let s = st g known (omega arith) in
       let v = vars es (row_a t ++ x) le de (omega arith) in
-      let e = said_of cs y es lc dc le (λ l n. starting g a k.process l n (keeping w g t) ≡ keeping w g t (stand c)) (s.0 (keeping w g t)) in
+      let e = subst (λ (n : ℕ). starting g a k.process cs n (keeping w g t) ≡ keeping w g t (stand c)) (sym le) (s.0 (keeping w g t)) in
       let l = s.1 in
       record {
         it = t;

@@ -10,8 +10,9 @@ use Rattle.judging.specs.declared.conversations.Conversations.{Conversations}
 use Rattle.judging.specs.declared.course.Course.{Course}
 use Rattle.judging.specs.declared.course.Course.TheVariants.{Kept, On, Parted}
 use Rattle.judging.specs.declared.setting.Setting.{Setting}
-use Rattle.judging.specs.Following.{words, keeping, Decides, Outcome, FollowSays, WalkSays, StopSays, GiveSays, TakeSays, ChooseSays, OfferSays, SetSays, IfSays, ShowSays, StartLooks, BecomeLooks}
+use Rattle.judging.specs.Following.{words, keeping, listed, Decides, Outcome, FollowSays, WalkSays, StopSays, GiveSays, TakeSays, ChooseSays, OfferSays, SetSays, IfSays, ShowSays, StartLooks, BecomeLooks}
 use Rattle.judging.specs.Standing.{stand}
+use Rattle.judging.proofs.CallLaws.{words_listed}
 use Rattle.model.specs.Program.{Action, start, become}
 use Rattle.model.specs.Rows.{row_es, row_a, deep, new}
 use Rattle.model.specs.Keeps.{At}
@@ -26,8 +27,12 @@ Says w i d a o (Offer c v) = OfferSays w c v a o
 Says w i d a o (Set y v) = SetSays w y v d a o
 Says w i d a o (If v) = IfSays w v d a o
 Says w i d a o (Show v) = ShowSays w v d a o
-Says w i d a o (Start f) = StartLooks w f d a o
-Says w i d a o (Become f) = BecomeLooks w f d a o
+Says w i d a o (Start f) = StartLooks w f (listed (words w) f) d a o
+Says w i d a o (Become f) = BecomeLooks w f (listed (words w) f) d a o
+
+-- what is said of the words of a call is said of the process and of the list that are written
+says_of : {cs cs' : List ℕ} {f f' : ℕ} → cs ≡ cs' → f ≡ f' → (P : ℕ → List ℕ → Type 0) → P f cs → P f' cs'
+says_of {cs} {cs'} {f} {f'} same process P p = subst (λ (z : ℕ). P z cs') process (subst (P f) same p)
 
 module _ (w : Setting) (i d : ℕ) (a : At) where
   pub follow_none : None ≡ instruction_at (words w) i → FollowSays w i d a None
@@ -47,11 +52,13 @@ module _ (w : Setting) (i d : ℕ) (a : At) where
       go (If v) t (at_if {e} {t = u} {u = y} s) says p q = says g known e u y x s p q
       go (Show v) t (at_show {e} {t = u} s) says p q = says g known e u x s p q
       go (Start f) t (at_start {cs} {es} {t = u} s) says p q =
-          subst (λ (z : ℕ). Outcome w g d x (keeping w g (start z cs es u) a) o) s.process
-          (says g known cs es u x (length es ∷ (row_es es ++ (row_a u ++ x))) (sym s.count) s.listed (sym s.expressions) s.numbers p q)
+          let same = words_listed (words w) cs (length es ∷ (row_es es ++ (row_a u ++ x))) f.conversations f.count (sym s.count) s.listed in
+          let it = says_of same s.process (λ h c. (deep (start h c es u) ≤ d → length a + new (start h c es u) ≤ 16 → Outcome w g d x (keeping w g (start h c es u) a) o)) (says g known es u x (sym s.expressions) s.numbers) in
+          it p q
       go (Become f) t (at_become {cs} {es} s) says p q =
-          subst (λ (z : ℕ). Outcome w g d x (keeping w g (become z cs es) a) o) s.process
-          (says g known cs es x (length es ∷ (row_es es ++ x)) (sym s.count) s.listed (sym s.expressions) s.numbers p)
+          let same = words_listed (words w) cs (length es ∷ (row_es es ++ x)) f.conversations f.count (sym s.count) s.listed in
+          let it = says_of same s.process (λ h c. (deep (become h c es) ≤ d → Outcome w g d x (keeping w g (become h c es) a) o)) (says g known es x (sym s.expressions) s.numbers) in
+          it p
 
 -- The walk began at place i with conversations at a, and has come to place j with conversations c: what stands there decides.
 pub record Walked (w : Setting) (i d : ℕ) (a : At) (j d' : ℕ) (c : Conversations) : Type 0 where

@@ -117,12 +117,11 @@ StartSays g a f cs many (Some c) = ((k : At → Bool) →
 abbrev pub becomes_well : Program → Bool → At → ℕ → List ℕ → ℕ → Bool
 becomes_well g r a f cs many = then (nth g.procs f) (λ p. (many == p.nums) && (alike r (f == 0) && then (hands a cs p.talks) (λ b. all_over g b)))
 
--- the same of a start and a become, by their operands
-abbrev pub StartLooks : Setting → Call → ℕ → At → Option Course → Type 0
-StartLooks w k d a o = Of w.rows (λ g. (cs : List ℕ) (es : List Expression) (t : Action) (x y : List ℕ) → length cs ≡ k.count → drop k.conversations (words w) ≡ cs ++ y →
-    length es ≡ k.expressions → drop k.numbers (words w) ≡ row_es es ++ (row_a t ++ x) → deep (start k.process cs es t) ≤ d → length a + new (start k.process cs es t) ≤ 16 →
-    Outcome w g d x (keeping w g (start k.process cs es t) a) o)
+-- the same of a start and a become, by their operands and the conversations cs that are handed on
+abbrev pub StartLooks : Setting → Call → List ℕ → ℕ → At → Option Course → Type 0
+StartLooks w k cs d a o = Of w.rows (λ g. (es : List Expression) (t : Action) (x : List ℕ) → length es ≡ k.expressions → drop k.numbers (words w) ≡ row_es es ++ (row_a t ++ x) →
+    deep (start k.process cs es t) ≤ d → length a + new (start k.process cs es t) ≤ 16 → Outcome w g d x (keeping w g (start k.process cs es t) a) o)
 
-abbrev pub BecomeLooks : Setting → Call → ℕ → At → Option Course → Type 0
-BecomeLooks w k d a o = Of w.rows (λ g. (cs : List ℕ) (es : List Expression) (x y : List ℕ) → length cs ≡ k.count → drop k.conversations (words w) ≡ cs ++ y →
-    length es ≡ k.expressions → drop k.numbers (words w) ≡ row_es es ++ x → deep_es es ≤ d → Outcome w g d x (keeping w g (become k.process cs es) a) o)
+abbrev pub BecomeLooks : Setting → Call → List ℕ → ℕ → At → Option Course → Type 0
+BecomeLooks w k cs d a o = Of w.rows (λ g. (es : List Expression) (x : List ℕ) → length es ≡ k.expressions → drop k.numbers (words w) ≡ row_es es ++ x → deep_es es ≤ d →
+    Outcome w g d x (keeping w g (become k.process cs es) a) o)

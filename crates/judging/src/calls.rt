@@ -11,7 +11,7 @@ use crate::setting::Setting;
 use rows::decode::Call;
 
 // The conversations that a call lists.
-fn listed<'a>(words: &'a [u32], call: &Call) -> &'a [u32]
+pub(crate) fn listed<'a>(words: &'a [u32], call: &Call) -> &'a [u32]
     requires { call.now.conversations + call.now.count ≤ length words.now }
     ensures { result.now ≡ listed words.now call.now }
 {
@@ -19,32 +19,35 @@ fn listed<'a>(words: &'a [u32], call: &Call) -> &'a [u32]
 }
 
 impl Setting<'_> {
-    // The conversations after a start, with the new one last, if what is handed on is what the process begins with.
-    fn after_start(&self, conversations: &Conversations, call: &Call) -> Option<Conversations>
-        requires { call.now.conversations + call.now.count ≤ length self.now.rows.words.now }
+    // The conversations after a start, with the new one last, if those that are listed are what the process begins with.
+    fn after_start(
+        &self,
+        conversations: &Conversations,
+        call: &Call,
+        listed: &[u32],
+    ) -> Option<Conversations>
         ensures { Of self.now.rows (λ g. length (stand conversations.now) < 16 →
-            StartSays g (stand conversations.now) call.now.process (listed self.now.rows.words.now call.now) call.now.expressions result) }
+            StartSays g (stand conversations.now) call.now.process listed.now call.now.expressions result) }
     {
         let (head, points) = beginning(&self.rows, call.process)?;
         if call.expressions != head.numbers {
             return None;
         }
         let (new, wanted) = points.split_first()?;
-        let mut left = conversations.hand_on(listed(self.rows.words, call), wanted)?;
+        let mut left = conversations.hand_on(listed, wanted)?;
         left.add(self.rows.other(*new)?)?;
         Some(left)
     }
 
     // Whether becoming a process keeps: it gets what it begins with, what is left is over, and process 0 becomes only itself.
-    fn becomes_well(&self, conversations: &Conversations, call: &Call) -> bool
-        requires { call.now.conversations + call.now.count ≤ length self.now.rows.words.now }
+    fn becomes_well(&self, conversations: &Conversations, call: &Call, listed: &[u32]) -> bool
         ensures { Of self.now.rows (λ g.
-            result ≡ becomes_well g self.now.root (stand conversations.now) call.now.process (listed self.now.rows.words.now call.now) call.now.expressions) }
+            result ≡ becomes_well g self.now.root (stand conversations.now) call.now.process listed.now call.now.expressions) }
     {
         let Some((head, points)) = beginning(&self.rows, call.process) else {
             return false;
         };
-        let Some(left) = conversations.hand_on(listed(self.rows.words, call), points) else {
+        let Some(left) = conversations.hand_on(listed, points) else {
             return false;
         };
         call.expressions == head.numbers
@@ -56,28 +59,29 @@ impl Setting<'_> {
         &self,
         conversations: &Conversations,
         call: &Call,
+        listed: &[u32],
         depth: u32,
     ) -> Option<Course>
-        requires { call.now.conversations + call.now.count ≤ length self.now.rows.words.now }
         ensures behind { CourseFrom self.now.rows.words.now call.now.numbers result }
-        ensures says { StartLooks self.now call.now depth (stand conversations.now) result }
+        ensures says { StartLooks self.now call.now listed.now depth (stand conversations.now) result }
     {
         let next = self.all_variables_there(call.numbers, call.expressions, depth)?;
-        Some(Course::On(next, self.after_start(conversations, call)?))
+        let left = self.after_start(conversations, call, listed)?;
+        Some(Course::On(next, left))
     }
 
     pub(crate) fn become_another(
         &self,
         conversations: &Conversations,
         call: &Call,
+        listed: &[u32],
         depth: u32,
     ) -> Option<Course>
-        requires { call.now.conversations + call.now.count ≤ length self.now.rows.words.now }
         ensures behind { CourseFrom self.now.rows.words.now call.now.numbers result }
-        ensures says { BecomeLooks self.now call.now depth (stand conversations.now) result }
+        ensures says { BecomeLooks self.now call.now listed.now depth (stand conversations.now) result }
     {
         let end = self.all_variables_there(call.numbers, call.expressions, depth)?;
-        self.becomes_well(conversations, call)
+        self.becomes_well(conversations, call, listed)
             .then_some(Course::Kept(end))
     }
 }

@@ -4,6 +4,7 @@ ghost use Rattle.judging.specs.Following.{CourseBehind, FollowSays, WalkSays};
 ghost use Rattle.judging.specs.Judging.{Behind};
 ghost use Rattle.judging.specs.Standing.{stand};
 
+use crate::calls::listed;
 use crate::conversations::Conversations;
 use crate::course::Course;
 use crate::setting::Setting;
@@ -38,8 +39,12 @@ impl Setting<'_> {
             Instruction::Set { variable, value } => self.set(conversations, variable, value, depth),
             Instruction::If { condition } => self.part(conversations, condition, depth),
             Instruction::Show { value } => self.show(conversations, value, depth),
-            Instruction::Start { call } => self.start(conversations, &call, depth),
-            Instruction::Become { call } => self.become_another(conversations, &call, depth),
+            Instruction::Start { call } => {
+                self.start(conversations, &call, listed(self.rows.words, &call), depth)
+            }
+            Instruction::Become { call } => {
+                self.become_another(conversations, &call, listed(self.rows.words, &call), depth)
+            }
         }
     }
 

@@ -52,6 +52,12 @@ module _ (s : List ℕ) (i : ℕ) (p : Process) (x : List ℕ) (h : drop i s ≡
       let same : head_made i p ≡ k = cc in
       subst (λ q. HeadIs s i q p x) same head_is
 
+pub process_none : (s : List ℕ) (i : ℕ) → None ≡ head_at s i → NoProcess s i
+process_none s i is p x h f =
+    let e = head_found s i p x h in
+    let z : ◌≡◌ {A = ℕ} 0 1 = cc in
+    omega arith
+
 module _ (s : List ℕ) (i : ℕ) (k : Head) (is : Some k ≡ head_at s i) where
   pub process_unfit : (k.count ≤ 16 → k.variables ≤ 16 → k.numbers ≤ k.variables → ⊥) → NoProcess s i
   process_unfit unfit p x h f =

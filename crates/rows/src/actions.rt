@@ -1,10 +1,10 @@
 // Where what a process does ends. What comes one after the other is a loop; the first of two ways is a recursion,
 // and the second goes on in the loop.
-ghost use Rattle.std.specs.Prelude.{◌^◌, ◌<◌, ◌≤◌, length};
 ghost use Rattle.rows.specs.Reading.{Passed, ActionEnd, SameBelow};
 
 use crate::decode::{Instruction, instruction_at};
 use crate::expressions::{expression_end, expressions_end};
+use crate::unread::Unread;
 
 // What an instruction leads to: the action ends at a place; it goes on at a place, with so much room for conversations
 // left; or two ways part, the first of which begins at a place.
@@ -41,35 +41,35 @@ fn advance(p: &[u32], at: usize, depth: u32, room: u32) -> Option<Pass>
     }
 }
 
-// The place behind the action that stands at a place, if one does that keeps the limits; the table then has its
-// second ways. What the table has for places before this one stays as it was.
-pub(crate) fn action_end(
-    p: &[u32],
-    at: usize,
-    depth: u32,
-    room: u32,
-    second: &mut [u16],
-) -> Option<usize>
-    requires table { length p.now ≤ length second.old }
-    requires small { length p.now < 2 ^ 16 }
-    ensures ends { ActionEnd p.now second.new at depth room result }
-    ensures before { SameBelow at second.old second.new }
-{
-    let mut here = at;
-    let mut deep = depth;
-    let mut left = room;
-    loop {
-        match advance(p, here, deep, left)? {
-            Pass::End(end) => return Some(end),
-            Pass::On(next, rest) => {
-                here = next;
-                left = rest;
-            }
-            Pass::Fork(first) => {
-                deep = deep.checked_sub(1)?;
-                let next = action_end(p, first, deep, left, second)?;
-                second[here] = next as u16;
-                here = next;
+impl Unread<'_> {
+    // The place behind the action that stands at a place, if one does that keeps the limits; the table then has its
+    // second ways. What the table has for places before this one stays as it was.
+    pub(crate) fn action_end(
+        &self,
+        at: usize,
+        depth: u32,
+        room: u32,
+        second: &mut [u16; 16384],
+    ) -> Option<usize>
+        ensures ends { ActionEnd self.now.words.now second.new at depth room result }
+        ensures before { SameBelow at second.old second.new }
+    {
+        let mut here = at;
+        let mut deep = depth;
+        let mut left = room;
+        loop {
+            match advance(self.words, here, deep, left)? {
+                Pass::End(end) => return Some(end),
+                Pass::On(next, rest) => {
+                    here = next;
+                    left = rest;
+                }
+                Pass::Fork(first) => {
+                    deep = deep.checked_sub(1)?;
+                    let next = self.action_end(first, deep, left, second)?;
+                    second[here] = next as u16;
+                    here = next;
+                }
             }
         }
     }

@@ -8,5 +8,6 @@ pub mod lookup;
 pub mod map;
 pub mod narrow;
 mod sections;
+mod unread;
 
 pub use crate::sections::read;

@@ -1,7 +1,7 @@
-use Rattle.std.proofs.Common.{◌≡◌, Option}
+use Rattle.std.proofs.Common.{◌≡◌, Option, subst}
 use Rattle.rows.specs.declared.decode.Instruction.{Instruction}
 use Rattle.judging.specs.declared.course.Course.{Course}
-use Rattle.judging.specs.Following.{FollowSays}
+use Rattle.judging.specs.Following.{FollowSays, StartLooks, BecomeLooks}
 use Rattle.judging.specs.Standing.{stand}
 use Rattle.judging.proofs.WalkLaws.{Says, follow_none, follow}
 use Rattle.judging.proofs.setting.Setting.follow.Goals as goal
@@ -41,7 +41,11 @@ pub returns-in-Show-clause-says : goal.returns-in-Show-clause-says
 returns-in-Show-clause-says c = by (goal.at.returns-in-Show-clause-says c).In_ok-instruction_at c.in-Show.is c.show.result c.show.ensures.says
 
 pub returns-in-Start-clause-says : goal.returns-in-Start-clause-says
-returns-in-Start-clause-says c = by (goal.at.returns-in-Start-clause-says c).In_ok-instruction_at c.in-Start.is c.start.result c.start.ensures.says
+returns-in-Start-clause-says c =
+    by (goal.at.returns-in-Start-clause-says c).In_ok-instruction_at c.in-Start.is c.start.result
+    (subst (λ cs. StartLooks c.args.self.now c.in-Start.call cs c.args.depth (stand c.args.conversations.now) c.start.result) c.listed.ensures c.start.ensures.says)
 
 pub returns-in-Become-clause-says : goal.returns-in-Become-clause-says
-returns-in-Become-clause-says c = by (goal.at.returns-in-Become-clause-says c).In_ok-instruction_at c.in-Become.is c.become_another.result c.become_another.ensures.says
+returns-in-Become-clause-says c =
+    by (goal.at.returns-in-Become-clause-says c).In_ok-instruction_at c.in-Become.is c.become_another.result
+    (subst (λ cs. BecomeLooks c.args.self.now c.in-Become.call cs c.args.depth (stand c.args.conversations.now) c.become_another.result) c.listed-in-Become.ensures c.become_another.ensures.says)

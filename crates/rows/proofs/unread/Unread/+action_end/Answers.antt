@@ -1,9 +1,9 @@
 use Rattle.std.proofs.Common.{arith}
 use Rattle.rows.proofs.Walks.{walk_none, walk_on, walk_fault, walk_end, walk_shallow, walk_first, walk_fork}
-use Rattle.rows.proofs.actions.+action_end.Goals as goal
+use Rattle.rows.proofs.unread.Unread.+action_end.Goals as goal
 
 pub loop-end-init : goal.loop-end-init
-loop-end-init t c = walk_none c.args.p.now c.args.second.now c.args.at c.args.depth c.args.room
+loop-end-init t c = walk_none c.args.self.now.words.now c.args.second.now c.args.at c.args.depth c.args.room
 
 pub returns-in_err-end-clause-ends : goal.returns-in_err-end-clause-ends
 returns-in_err-end-clause-ends t c = rw c.from_residual.ensures (walk_fault c.loop-end.invariant c.in_err-end.ensures)

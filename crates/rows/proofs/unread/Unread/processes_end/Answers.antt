@@ -1,5 +1,5 @@
 use Rattle.rows.proofs.ProgramLaws.{processed_more, processed_full, processed_stuck}
-use Rattle.rows.proofs.sections.processes_end.Goals as goal
+use Rattle.rows.proofs.unread.Unread.processes_end.Goals as goal
 
 pub returns-in_err-add : goal.returns-in_err-add
 returns-in_err-add c = rw c.from_residual.ensures (processed_full c.loop-here.invariant c.loop-here-test.true c.in_err-add.ensures)

@@ -1,6 +1,6 @@
 use Rattle.std.proofs.Common.{arith}
 use Rattle.rows.proofs.PointLaws.{points_again, points_stuck}
-use Rattle.rows.proofs.sections.points_end.Goals as goal
+use Rattle.rows.proofs.unread.Unread.points_end.Goals as goal
 
 pub returns-in_err-kind-clause-places : goal.returns-in_err-kind-clause-places
 returns-in_err-kind-clause-places c = rw c.from_residual.ensures (points_stuck c.loop.invariant.found c.loop-test.true c.in_err-kind.ensures.is)

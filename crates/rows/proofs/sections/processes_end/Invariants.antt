@@ -1,9 +1,0 @@
-use Rattle.std.proofs.Common.{◌-◌, length}
-use Rattle.rows.proofs.ProgramLaws.{Processed}
-use Rattle.rows.proofs.sections.processes_end.Given as goal
-
-abbrev pub invariant-loop-here : goal.invariant-loop-here
-invariant-loop-here l = Processed l.p l.places.at l.second l.at l.places.count l.here
-
-abbrev pub decreases-loop-here : goal.decreases-loop-here
-decreases-loop-here l = length l.p - l.here

@@ -1,5 +1,7 @@
 // The points of rows, and what they are called in a text: a point of the side that is written, or the other side
 // of one.
+ghost use Rattle.std.specs.Prelude.{◌≤◌};
+
 use crate::name::Name;
 use crate::unprinted::Unprinted;
 use rows::decode::{PointKind, point_at};
@@ -34,7 +36,9 @@ pub struct Layout {
 }
 
 // How many words a point has.
-fn size_of(kind: PointKind) -> usize {
+fn size_of(kind: PointKind) -> usize
+    ensures { result ≤ 3 }
+{
     match kind {
         PointKind::Over => 1,
         PointKind::Gives(_) | PointKind::Takes(_) => 2,
@@ -50,9 +54,9 @@ pub fn read_points(heap: Global, words: &[u32]) -> Result<Points, Unprinted> {
     for _ in 0..count {
         let kind = point_at(words, at).ok_or(Unprinted::NoProgram)?;
         kinds.push(kind)?;
-        at = at.saturating_add(size_of(kind));
+        at += size_of(kind);
     }
-    let end = at.saturating_add(kinds.len());
+    let end = at + kinds.len();
     let others = words.get(at..end).ok_or(Unprinted::NoProgram)?;
     let all = kinds
         .iter()

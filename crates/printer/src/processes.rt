@@ -85,12 +85,12 @@ impl<'a> Processes<'a> {
         match term_at(self.words, at).ok_or(Unprinted::NoProgram)? {
             Term::Number(n) => {
                 write!(self.page, "{n}")?;
-                Ok(at.saturating_add(2))
+                Ok(at + 2)
             }
             Term::Variable(x) => {
                 let x = self.variable(x);
                 write!(self.page, "{x}")?;
-                Ok(at.saturating_add(2))
+                Ok(at + 2)
             }
             Term::Pair { operator, first } => {
                 let (sign, tight) = sign(operator);
@@ -115,8 +115,8 @@ impl<'a> Processes<'a> {
 
     // The conversations that are handed on, in parentheses.
     fn put_talks(&mut self, call: Call) -> Result<(), Unprinted> {
-        let words = self.words;
-        for (i, c) in words
+        for (i, c) in self
+            .words
             .iter()
             .skip(call.conversations)
             .take(call.count)

@@ -1,21 +1,11 @@
 // Why rows are not printed.
-use std::alloc::{AllocError, AllocFailed};
+use std::alloc::AllocError;
+use thiserror::Error;
 
-#[derive(Clone, Copy)]
+#[derive(Debug, Drop, Error)]
 pub enum Unprinted {
-    // The words are no program.
+    #[error("these words are no program")]
     NoProgram,
-    Memory(AllocError),
-}
-
-impl From<AllocError> for Unprinted {
-    fn from(e: AllocError) -> Unprinted {
-        Unprinted::Memory(e)
-    }
-}
-
-impl<T: Drop> From<AllocFailed<T>> for Unprinted {
-    fn from(e: AllocFailed<T>) -> Unprinted {
-        Unprinted::Memory(AllocError::from(e))
-    }
+    #[error(transparent)]
+    Memory(#[from(alloc)] AllocError),
 }

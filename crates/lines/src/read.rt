@@ -1,8 +1,11 @@
 // Reading a line byte by byte.
+ghost use Rattle.std.specs.Borrow.{sem};
+ghost use Rattle.std.specs.Option.{option_copied};
 ghost use Rattle.std.specs.Prelude.{◌≡◌, ◌<◌, IfOk, OnOk};
-ghost use Rattle.lines.specs.Reading.{begun, digit, ended, read_byte, reading};
+ghost use Rattle.lines.specs.Lending.{LendsWords};
+ghost use Rattle.lines.specs.Reading.{begun, digit, ended, numbers, read_byte, reading};
 
-use crate::line::{Last, Line};
+use crate::line::Line;
 use std::alloc::{AllocError, Global};
 
 // One word more than a program may have: a line with more words is no program, so the rest need not be kept.
@@ -14,7 +17,7 @@ impl Line {
     {
         Line {
             words: Vec::new(heap),
-            last: Last::Blank,
+            last: None,
             good: true,
         }
     }
@@ -23,15 +26,11 @@ impl Line {
     pub fn read(&mut self, byte: u8) -> Result<(), AllocError>
         ensures { OnOk result (reading self.new ≡ read_byte byte (reading self.old)) }
     {
-        if byte == b' ' || byte == b'\t' || byte == b'\r' {
-            self.end_word()?;
-            return Ok(());
+        match byte {
+            b' ' | b'\t' | b'\r' => return self.end_word(),
+            b'0'..=b'9' => self.add_digit(u32::from(byte - b'0')),
+            _ => self.good = false,
         }
-        if byte < b'0' || byte > b'9' {
-            self.good = false;
-            return Ok(());
-        }
-        self.add_digit(u32::from(byte - b'0'));
         Ok(())
     }
 
@@ -40,15 +39,10 @@ impl Line {
         requires { d < 10 }
         ensures { reading self.new ≡ digit d (reading self.old) }
     {
-        match self.last {
-            Last::Blank => self.last = Last::Number(d),
-            Last::Number(n) => {
-                let all = u64::from(n) * 10 + u64::from(d);
-                match u32::try_from(all) {
-                    Ok(all) => self.last = Last::Number(all),
-                    Err(_) => self.good = false,
-                }
-            }
+        let number = self.last.unwrap_or(0);
+        match number.checked_mul(10).and_then(|n| n.checked_add(d)) {
+            Some(all) => self.last = Some(all),
+            None => self.good = false,
         }
     }
 
@@ -56,24 +50,21 @@ impl Line {
     fn end_word(&mut self) -> Result<(), AllocError>
         ensures { OnOk result (reading self.new ≡ ended (reading self.old)) }
     {
-        match self.last {
-            Last::Blank => Ok(()),
-            Last::Number(n) => {
-                self.last = Last::Blank;
-                if self.words.len() < MOST_WORDS {
-                    self.words.push(n)?;
-                }
-                Ok(())
-            }
+        if let Some(n) = self.last.take()
+            && self.words.len() < MOST_WORDS
+        {
+            self.words.push(n)?;
         }
+        Ok(())
     }
 
     // At the end of the line: its words, if all of them are numbers of 32 bits.
-    pub fn finish(&mut self) -> Result<bool, AllocError>
-        ensures { IfOk result (λ good. (reading self.new ≡ ended (reading self.old)) × (good ≡ self.new.good)) }
+    pub fn finish(&mut self) -> Result<Option<&[u32]>, AllocError>
+        ensures* ended { sem 𝓛 (LendsWords self.entry result) }
+        ensures words { IfOk result (λ o. option_copied o ≡ numbers (ended (reading self.old))) }
     {
         self.end_word()?;
-        Ok(self.good)
+        Ok(self.good.then_some(self.words()))
     }
 
     // The words so far.
@@ -88,7 +79,7 @@ impl Line {
         ensures { reading self.new ≡ begun }
     {
         self.words.clear();
-        self.last = Last::Blank;
+        self.last = None;
         self.good = true;
     }
 }

@@ -2,10 +2,10 @@
 ghost use Rattle.std.specs.Prelude.{◌≡◌, [], ◌∷◌, ◌++◌, IfOk, string_bytes};
 
 use std::alloc::{AllocError, Global};
+use std::fmt::Display;
 
 #[derive(Drop)]
 pub struct Page {
-    heap: Global,
     text: String,
     indent: usize,
 }
@@ -13,34 +13,14 @@ pub struct Page {
 impl Page {
     pub fn new(heap: Global) -> Page {
         Page {
-            heap,
             text: String::new(heap),
             indent: 0,
         }
     }
 
-    pub fn put(&mut self, words: &str) -> Result<(), AllocError> {
-        self.text.push_str(words)
-    }
-
-    pub fn number(&mut self, n: u32) -> Result<(), AllocError> {
-        let digits = n.to_string(self.heap)?;
-        self.text.push_str(digits.as_str())
-    }
-
-    // A name of a letter and a number.
-    pub fn named(&mut self, letter: &str, n: u32) -> Result<(), AllocError> {
-        self.text.push_str(letter)?;
-        self.number(n)
-    }
-
-    // A name if there is such a thing, and else its number.
-    pub fn named_below(&mut self, letter: &str, n: u32, count: u32) -> Result<(), AllocError> {
-        if n < count {
-            self.named(letter, n)
-        } else {
-            self.named("?", n)
-        }
+    // What `write!` calls.
+    pub fn write_fmt<D: Display + Drop>(&mut self, words: D) -> Result<(), AllocError> {
+        self.text.write_fmt(words)
     }
 
     // Ends the line, and begins the next at the indent, which is not printed deeper than eight blocks: a text stays
@@ -59,11 +39,6 @@ impl Page {
 
     pub fn leave(&mut self) {
         self.indent = self.indent.saturating_sub(1);
-    }
-
-    pub fn clear(&mut self) {
-        self.text.clear();
-        self.indent = 0;
     }
 
     // The text, with its last line ended.

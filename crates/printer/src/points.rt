@@ -1,155 +1,146 @@
 // The points of rows, and what they are called in a text: a point of the side that is written, or the other side
 // of one.
+ghost use Rattle.std.specs.Prelude.{◌≤◌};
+
+use crate::name::Name;
+use crate::unprinted::Unprinted;
+use rows::decode::{PointKind, point_at};
 use std::alloc::{AllocError, Global};
-use syntax::Point;
+
+// A point of rows: what it says, and the number of its other side.
+#[derive(Clone, Copy)]
+pub struct Point {
+    pub kind: PointKind,
+    pub other: u32,
+}
+
+// The points of rows, and where the rows go on after them.
+#[derive(Drop)]
+pub struct Points {
+    pub all: Vec<Point>,
+    pub end: usize,
+}
 
 // Which side of which written point a point is.
 #[derive(Clone, Copy)]
 pub enum Side {
-    Nowhere,
     Near(u32),
     Far(u32),
 }
 
-// The points of rows: what they say, the other side's of each, and where the rows go on after them.
-#[derive(Drop)]
-pub struct Points {
-    pub points: Vec<Point>,
-    pub other: Vec<u32>,
-    pub end: usize,
-}
-
-// The sides of all points, and the number in the rows of each point that is written.
+// The sides of all points, and what each point that is written says.
 #[derive(Drop)]
 pub struct Layout {
-    pub sides: Vec<Side>,
-    pub near: Vec<usize>,
+    sides: Vec<Option<Side>>,
+    pub written: Vec<PointKind>,
 }
 
-fn word(words: &[u32], at: usize) -> Option<u32> {
-    words.get(at).copied()
-}
-
-// A point at a place, and the place after it.
-fn read_point(words: &[u32], at: usize) -> Option<(Point, usize)> {
-    let next = at.saturating_add(1);
-    let after = at.saturating_add(2);
-    match word(words, at)? {
-        0 => Some((Point::Over, next)),
-        1 => Some((Point::Gives(word(words, next)?), after)),
-        2 => Some((Point::Takes(word(words, next)?), after)),
-        3 => Some((
-            Point::Chooses(word(words, next)?, word(words, after)?),
-            at.saturating_add(3),
-        )),
-        4 => Some((
-            Point::Offers(word(words, next)?, word(words, after)?),
-            at.saturating_add(3),
-        )),
-        _ => None,
+// How many words a point has.
+fn size_of(kind: PointKind) -> usize
+    ensures { result ≤ 3 }
+{
+    match kind {
+        PointKind::Over => 1,
+        PointKind::Gives(_) | PointKind::Takes(_) => 2,
+        PointKind::Chooses(_, _) | PointKind::Offers(_, _) => 3,
     }
 }
 
-// All points of rows.
-pub fn read_points(heap: Global, words: &[u32]) -> Result<Option<Points>, AllocError> {
-    let mut points = Vec::new(heap);
-    let mut other = Vec::new(heap);
-    let count = word(words, 0).unwrap_or(0);
+// All points of rows: first what each says, and then the other side of each.
+pub fn read_points(heap: Global, words: &[u32]) -> Result<Points, Unprinted> {
+    let count = words.first().copied().ok_or(Unprinted::NoProgram)?;
+    let mut kinds = Vec::new(heap);
     let mut at = 1usize;
     for _ in 0..count {
-        let Some((point, next)) = read_point(words, at) else {
-            return Ok(None);
-        };
-        points.push(point)?;
-        at = next;
+        let kind = point_at(words, at).ok_or(Unprinted::NoProgram)?;
+        kinds.push(kind)?;
+        at += size_of(kind);
     }
-    for _ in 0..count {
-        let Some(side) = word(words, at) else {
-            return Ok(None);
-        };
-        other.push(side)?;
-        at = at.saturating_add(1);
-    }
-    Ok(Some(Points {
-        points,
-        other,
-        end: at,
-    }))
+    let end = at + kinds.len();
+    let others = words.get(at..end).ok_or(Unprinted::NoProgram)?;
+    let all = kinds
+        .iter()
+        .zip(others)
+        .map(|(kind, other)| Point {
+            kind: *kind,
+            other: *other,
+        })
+        .collect(heap)?;
+    Ok(Points { all, end })
 }
 
 impl Points {
-    // The other side's number of a point.
-    fn across(&self, i: u32) -> Option<u32> {
-        self.other.get(i as usize).copied()
+    fn get(&self, number: u32) -> Option<Point> {
+        self.all.get(number as usize).copied()
     }
 
     // Whether two points are each other's other side.
     fn mutual(&self, i: u32, j: u32) -> bool {
-        self.across(i) == Some(j) && self.across(j) == Some(i)
+        self.get(i).is_some_and(|p| p.other == j) && self.get(j).is_some_and(|q| q.other == i)
     }
 
     // Whether what two sides say fits.
-    fn faces(&self, p: Point, q: Point) -> bool {
+    fn faces(&self, p: PointKind, q: PointKind) -> bool {
         match (p, q) {
-            (Point::Over, Point::Over) => true,
-            (Point::Gives(n), Point::Takes(m)) => self.mutual(n, m),
-            (Point::Takes(n), Point::Gives(m)) => self.mutual(n, m),
-            (Point::Chooses(a, b), Point::Offers(c, d)) => self.mutual(a, c) && self.mutual(b, d),
-            (Point::Offers(a, b), Point::Chooses(c, d)) => self.mutual(a, c) && self.mutual(b, d),
+            (PointKind::Over, PointKind::Over) => true,
+            (PointKind::Gives(n), PointKind::Takes(m))
+            | (PointKind::Takes(n), PointKind::Gives(m)) => self.mutual(n, m),
+            (PointKind::Chooses(a, b), PointKind::Offers(c, d))
+            | (PointKind::Offers(a, b), PointKind::Chooses(c, d)) => {
+                self.mutual(a, c) && self.mutual(b, d)
+            }
             _ => false,
         }
     }
 
-    fn fits_at(&self, i: u32, p: Point) -> bool {
-        let Some(j) = self.across(i) else {
-            return false;
-        };
-        let Some(q) = self.points.get(j as usize).copied() else {
-            return false;
-        };
-        self.mutual(i, j) && self.faces(p, q)
+    // Whether the point of a number fits its other side.
+    fn fits_at(&self, number: u32, p: Point) -> bool {
+        self.get(p.other)
+            .is_some_and(|q| q.other == number && self.faces(p.kind, q.kind))
     }
 
     // Whether every point fits its other side.
     pub fn fit(&self) -> bool {
-        let mut i = 0u32;
-        for p in self.points.iter() {
-            if !self.fits_at(i, *p) {
-                return false;
-            }
-            i = i.saturating_add(1);
-        }
-        true
+        (0u32..)
+            .zip(self.all.iter())
+            .all(|(number, p)| self.fits_at(number, *p))
     }
 
     // Which points are written, in their order: of two sides the one that comes first.
     pub fn layout(&self, heap: Global) -> Result<Layout, AllocError> {
-        let mut sides = vec![in heap; Side::Nowhere; self.points.len()]?;
-        let mut near: Vec<usize> = Vec::new(heap);
-        for (i, j) in self.other.iter().enumerate() {
-            if let Some(Side::Nowhere) = sides.get(i).copied() {
-                let k = near.len().min(256) as u32;
-                put_side(&mut sides, *j as usize, Side::Far(k));
+        let mut sides: Vec<Option<Side>> = vec![in heap; None; self.all.len()]?;
+        let mut written = Vec::new(heap);
+        for (i, p) in self.all.iter().enumerate() {
+            if let Some(None) = sides.get(i) {
+                let k = written.len().min(256) as u32;
+                put_side(&mut sides, p.other as usize, Side::Far(k));
                 put_side(&mut sides, i, Side::Near(k));
-                near.push(i)?;
+                written.push(p.kind)?;
             }
         }
-        Ok(Layout { sides, near })
+        Ok(Layout { sides, written })
     }
 }
 
-fn put_side(sides: &mut Vec<Side>, i: usize, side: Side) {
-    if i < sides.len() {
-        sides[i] = side;
+fn put_side(sides: &mut Vec<Option<Side>>, i: usize, side: Side) {
+    if let Some(place) = sides.get_mut(i) {
+        *place = Some(side);
     }
 }
 
 impl Layout {
     // Which side of which written point a point is.
-    pub fn side(&self, point: u32) -> Side {
-        self.sides
-            .get(point as usize)
-            .copied()
-            .unwrap_or(Side::Nowhere)
+    pub fn side(&self, point: u32) -> Option<Side> {
+        self.sides.get(point as usize).copied().flatten()
+    }
+
+    // A point by its protocol's name.
+    pub fn name(&self, point: u32) -> Name {
+        let (before, number) = match self.side(point) {
+            Some(Side::Near(k)) => ("P", k),
+            Some(Side::Far(k)) => ("other P", k),
+            None => ("?", point),
+        };
+        Name { before, number }
     }
 }

@@ -1,16 +1,18 @@
 // Processes, printed from rows action by action.
-use crate::expressions::put_expression;
+ghost use Rattle.std.specs.Prelude.{◌+◌, ◌≤◌, length};
+
+use crate::name::Name;
 use crate::page::Page;
 use crate::points::Layout;
-use crate::protocols::put_side;
-use std::alloc::{AllocError, Global};
+use crate::unprinted::Unprinted;
+use rows::decode::{Call, Head, Instruction, Operator, Term, head_at, instruction_at, term_at};
+use std::alloc::Global;
 
-// What an action is read and printed with: the rows, how many processes there are, and the variables of this one.
-#[derive(Clone, Copy)]
-pub struct Rows<'a> {
-    pub words: &'a [u32],
-    pub procs: u32,
-    pub vars: u32,
+// The points at which the conversations of a process begin.
+pub fn talks_of(words: &[u32], head: Head) -> &[u32]
+    requires { head.talks + head.count ≤ length words.now }
+{
+    &words[head.talks..head.talks + head.count]
 }
 
 // What is open around an action: after the first way of `if` or `offer` comes the second, with the conversations
@@ -23,353 +25,347 @@ enum Open {
     Offer,
 }
 
-fn word(words: &[u32], at: usize) -> Option<u32> {
-    words.get(at).copied()
-}
-
-// An expression at a place; the place after it.
-fn put_value(page: &mut Page, r: Rows, at: usize) -> Result<Option<usize>, AllocError> {
-    put_expression(page, r.words, at, r.vars, 1, 257)
-}
-
-// The conversations that are handed on, in parentheses; the place after them.
-fn put_talks(page: &mut Page, r: Rows, at: usize, talks: u32) -> Result<Option<usize>, AllocError> {
-    let Some(count) = word(r.words, at) else {
-        return Ok(None);
-    };
-    let mut next = at.saturating_add(1);
-    for i in 0..count {
-        let Some(c) = word(r.words, next) else {
-            return Ok(None);
-        };
-        page.put(if i == 0 { "(" } else { ", " })?;
-        page.named_below("c", c, talks)?;
-        next = next.saturating_add(1);
+// How an operator is written, and how tightly it binds.
+fn sign(operator: Operator) -> (&'static str, u8) {
+    match operator {
+        Operator::Sum => ("+", 2),
+        Operator::Difference => ("-", 2),
+        Operator::Product => ("*", 3),
+        Operator::Less => ("<", 1),
     }
-    if count > 0 {
-        page.put(")")?;
-    }
-    Ok(Some(next))
 }
 
-// The numbers that are handed on; the place after them.
-fn put_values(page: &mut Page, r: Rows, at: usize) -> Result<Option<usize>, AllocError> {
-    let Some(count) = word(r.words, at) else {
-        return Ok(None);
-    };
-    let mut next = at.saturating_add(1);
-    for i in 0..count {
-        page.put(if i == 0 { " with " } else { ", " })?;
-        let Some(after) = put_value(page, r, next)? else {
-            return Ok(None);
-        };
-        next = after;
-    }
-    Ok(Some(next))
-}
-
-// The process, the conversations and the numbers of `start` and `become`; the place after them.
-fn put_handed(
-    page: &mut Page,
-    r: Rows,
-    at: usize,
+// The processes of a program that are being printed: its rows, what its points are called, how many processes it has,
+// and of the one that is printed the variables, the conversations so far, and what is open.
+#[derive(Drop)]
+pub struct Processes<'a> {
+    page: &'a mut Page,
+    words: &'a [u32],
+    layout: &'a Layout,
+    count: u32,
+    variables: u32,
     talks: u32,
-) -> Result<Option<usize>, AllocError> {
-    let Some(process) = word(r.words, at) else {
-        return Ok(None);
-    };
-    page.named_below("p", process, r.procs)?;
-    let Some(middle) = put_talks(page, r, at.saturating_add(1), talks)? else {
-        return Ok(None);
-    };
-    put_values(page, r, middle)
+    open: Vec<Open>,
 }
 
-// `give` or `take`, with the conversation at `at`.
-fn put_message(
-    page: &mut Page,
-    r: Rows,
-    at: usize,
-    talks: u32,
-    gives: bool,
-) -> Result<Option<usize>, AllocError> {
-    let Some(c) = word(r.words, at) else {
-        return Ok(None);
-    };
-    let next = at.saturating_add(1);
-    let mut end = next.saturating_add(1);
-    if gives {
-        page.put("give ")?;
-        let Some(after) = put_value(page, r, next)? else {
-            return Ok(None);
-        };
-        end = after;
-        page.put(" to ")?;
-    } else {
-        let Some(x) = word(r.words, next) else {
-            return Ok(None);
-        };
-        page.put("take ")?;
-        page.named_below("v", x, r.vars)?;
-        page.put(" from ")?;
-    }
-    page.named_below("c", c, talks)?;
-    Ok(Some(end))
-}
-
-fn put_choose(
-    page: &mut Page,
-    r: Rows,
-    at: usize,
-    talks: u32,
-) -> Result<Option<usize>, AllocError> {
-    let next = at.saturating_add(1);
-    let Some(c) = word(r.words, at) else {
-        return Ok(None);
-    };
-    let Some(way) = word(r.words, next) else {
-        return Ok(None);
-    };
-    page.put("choose ")?;
-    match way {
-        0 => page.put("first")?,
-        1 => page.put("second")?,
-        _ => page.named("?", way)?,
-    }
-    page.put(" in ")?;
-    page.named_below("c", c, talks)?;
-    Ok(Some(next.saturating_add(1)))
-}
-
-fn put_set(page: &mut Page, r: Rows, at: usize) -> Result<Option<usize>, AllocError> {
-    let Some(x) = word(r.words, at) else {
-        return Ok(None);
-    };
-    page.put("set ")?;
-    page.named_below("v", x, r.vars)?;
-    page.put(" = ")?;
-    put_value(page, r, at.saturating_add(1))
-}
-
-fn put_show(page: &mut Page, r: Rows, at: usize) -> Result<Option<usize>, AllocError> {
-    page.put("show ")?;
-    put_value(page, r, at)
-}
-
-fn put_start(page: &mut Page, r: Rows, at: usize, talks: u32) -> Result<Option<usize>, AllocError> {
-    page.put("start ")?;
-    let end = put_handed(page, r, at, talks)?;
-    page.named(" as c", talks)?;
-    Ok(end)
-}
-
-// An action after which another comes, without the `;`; `at` is the place after its first word.
-fn put_step(
-    page: &mut Page,
-    r: Rows,
-    tag: u32,
-    at: usize,
-    talks: u32,
-) -> Result<Option<usize>, AllocError> {
-    match tag {
-        1 => put_message(page, r, at, talks, true),
-        2 => put_message(page, r, at, talks, false),
-        3 => put_choose(page, r, at, talks),
-        5 => put_set(page, r, at),
-        7 => put_show(page, r, at),
-        8 => put_start(page, r, at, talks),
-        _ => Ok(None),
-    }
-}
-
-// The first way of `if` or `offer` begins.
-fn put_ways(
-    page: &mut Page,
-    r: Rows,
-    tag: u32,
-    at: usize,
-    talks: u32,
-    open: &mut Vec<Open>,
-) -> Result<Option<usize>, AllocError> {
-    if tag == 6 {
-        page.put("if ")?;
-        let end = put_value(page, r, at)?;
-        page.put(" {")?;
-        page.enter();
-        open.push(Open::Else(talks))?;
-        return Ok(end);
-    }
-    let Some(c) = word(r.words, at) else {
-        return Ok(None);
-    };
-    page.put("offer in ")?;
-    page.named_below("c", c, talks)?;
-    page.put(" {")?;
-    page.enter();
-    page.line()?;
-    page.put("first:")?;
-    page.enter();
-    open.push(Open::SecondWay(talks))?;
-    Ok(Some(at.saturating_add(1)))
-}
-
-// After a last action: closes what it ends, up to the next way that begins, whose conversations it gives; none
-// where the process ends.
-fn close(page: &mut Page, open: &mut Vec<Open>) -> Result<Option<u32>, AllocError> {
-    while let Some(o) = open.pop() {
-        page.leave();
-        match o {
-            Open::Else(talks) => {
-                page.line()?;
-                page.put("} else {")?;
-                page.enter();
-                open.push(Open::If)?;
-                return Ok(Some(talks));
-            }
-            Open::SecondWay(talks) => {
-                page.line()?;
-                page.put("second:")?;
-                page.enter();
-                open.push(Open::Offer)?;
-                return Ok(Some(talks));
-            }
-            Open::If => {}
-            Open::Offer => page.leave(),
+impl<'a> Processes<'a> {
+    pub fn new(
+        heap: Global,
+        page: &'a mut Page,
+        words: &'a [u32],
+        layout: &'a Layout,
+        count: u32,
+    ) -> Processes<'a> {
+        Processes {
+            page,
+            words,
+            layout,
+            count,
+            variables: 0,
+            talks: 0,
+            open: Vec::new(heap),
         }
-        page.line()?;
-        page.put("}")?;
     }
-    Ok(None)
-}
 
-// What a process does from a place on; the place after it.
-fn put_actions(
-    page: &mut Page,
-    heap: Global,
-    r: Rows,
-    begin: usize,
-    first_talks: u32,
-) -> Result<Option<usize>, AllocError> {
-    let mut open: Vec<Open> = Vec::new(heap);
-    let mut talks = first_talks;
-    let mut at = begin;
-    for _ in 0..r.words.len() {
-        let Some(tag) = word(r.words, at) else {
-            return Ok(None);
-        };
-        let next = at.saturating_add(1);
-        page.line()?;
-        let end = put_action(page, r, tag, next, talks, &mut open)?;
-        let Some(end) = end else {
-            return Ok(None);
-        };
-        at = end;
-        if tag == 8 {
-            talks = talks.saturating_add(1);
+    // The name of a conversation.
+    fn talk(&self, number: u32) -> Name {
+        Name::below("c", number, self.talks)
+    }
+
+    // The name of a variable.
+    fn variable(&self, number: u32) -> Name {
+        Name::below("v", number, self.variables)
+    }
+
+    // The expression at a place, in parentheses if it binds less tightly than `least`; the place after it.
+    fn put_expression(&mut self, at: usize, least: u8, depth: u32) -> Result<usize, Unprinted> {
+        if depth == 0 {
+            return Err(Unprinted::NoProgram);
         }
-        if tag == 0 || tag == 9 {
-            match close(page, &mut open)? {
-                Some(before) => talks = before,
-                None => return Ok(Some(at)),
+        match term_at(self.words, at).ok_or(Unprinted::NoProgram)? {
+            Term::Number(n) => {
+                write!(self.page, "{n}")?;
+                Ok(at + 2)
+            }
+            Term::Variable(x) => {
+                let x = self.variable(x);
+                write!(self.page, "{x}")?;
+                Ok(at + 2)
+            }
+            Term::Pair { operator, first } => {
+                let (sign, tight) = sign(operator);
+                if tight < least {
+                    write!(self.page, "(")?;
+                }
+                let second = self.put_expression(first, tight, depth - 1)?;
+                write!(self.page, " {sign} ")?;
+                let end = self.put_expression(second, tight.saturating_add(1), depth - 1)?;
+                if tight < least {
+                    write!(self.page, ")")?;
+                }
+                Ok(end)
             }
         }
     }
-    Ok(None)
-}
 
-// One action; the place after it, where for `if` and `offer` the first way begins.
-fn put_action(
-    page: &mut Page,
-    r: Rows,
-    tag: u32,
-    at: usize,
-    talks: u32,
-    open: &mut Vec<Open>,
-) -> Result<Option<usize>, AllocError> {
-    if tag == 4 || tag == 6 {
-        return put_ways(page, r, tag, at, talks, open);
+    // An expression that stands alone; the place after it.
+    fn put_value(&mut self, at: usize) -> Result<usize, Unprinted> {
+        self.put_expression(at, 1, 257)
     }
-    let mut end = Some(at);
-    if tag == 0 {
-        page.put("stop")?;
-    } else if tag == 9 {
-        page.put("become ")?;
-        end = put_handed(page, r, at, talks)?;
-    } else {
-        end = put_step(page, r, tag, at, talks)?;
-    }
-    page.put(";")?;
-    Ok(end)
-}
 
-// The conversations of a process, in parentheses.
-fn put_header_talks(page: &mut Page, l: &Layout, talks: &[u32]) -> Result<(), AllocError> {
-    let mut i = 0u32;
-    for t in talks {
-        page.put(if i == 0 { "(" } else { ", " })?;
-        page.named("c", i)?;
-        page.put(": ")?;
-        put_side(page, l.side(*t), *t)?;
-        i = i.saturating_add(1);
+    // The conversations that are handed on, in parentheses.
+    fn put_talks(&mut self, call: Call) -> Result<(), Unprinted> {
+        for (i, c) in self
+            .words
+            .iter()
+            .skip(call.conversations)
+            .take(call.count)
+            .enumerate()
+        {
+            let before = if i == 0 { "(" } else { ", " };
+            let c = self.talk(*c);
+            write!(self.page, "{before}{c}")?;
+        }
+        if call.count > 0 {
+            write!(self.page, ")")?;
+        }
+        Ok(())
     }
-    if i > 0 {
-        page.put(")")?;
-    }
-    Ok(())
-}
 
-// The names of variables from one number up to another.
-fn put_vars(page: &mut Page, before: &str, from: u32, to: u32) -> Result<(), AllocError> {
-    for x in from..to {
-        page.put(if x == from { before } else { ", " })?;
-        page.named("v", x)?;
+    // The numbers that are handed on; the place after them.
+    fn put_values(&mut self, call: Call) -> Result<usize, Unprinted> {
+        let mut at = call.numbers;
+        for i in 0..call.expressions {
+            let before = if i == 0 { " with " } else { ", " };
+            write!(self.page, "{before}")?;
+            at = self.put_value(at)?;
+        }
+        Ok(at)
     }
-    Ok(())
-}
 
-// The process of a number, at a place; the place after it.
-pub fn put_process(
-    page: &mut Page,
-    heap: Global,
-    l: &Layout,
-    r: Rows,
-    number: u32,
-    at: usize,
-) -> Result<Option<usize>, AllocError> {
-    let count = word(r.words, at).unwrap_or(0) as usize;
-    let begin = at.saturating_add(1);
-    let after = begin.saturating_add(count);
-    let Some(talks) = r.words.get(begin..after) else {
-        return Ok(None);
-    };
-    let nums = word(r.words, after).unwrap_or(0);
-    let vars = word(r.words, after.saturating_add(1)).unwrap_or(0).min(16);
-    page.line()?;
-    page.named("process p", number)?;
-    put_header_talks(page, l, talks)?;
-    put_vars(page, " with ", 0, nums.min(vars))?;
-    page.put(" {")?;
-    page.enter();
-    if nums < vars {
-        page.line()?;
-        put_vars(page, "var ", nums, vars)?;
-        page.put(";")?;
+    // The process, the conversations and the numbers of `start` and `become`; the place after them.
+    fn put_call(&mut self, call: Call) -> Result<usize, Unprinted> {
+        let process = Name::below("p", call.process, self.count);
+        write!(self.page, "{process}")?;
+        self.put_talks(call)?;
+        self.put_values(call)
     }
-    let inner = Rows {
-        words: r.words,
-        procs: r.procs,
-        vars,
-    };
-    let end = put_actions(
-        page,
-        heap,
-        inner,
-        after.saturating_add(2),
-        count.min(16) as u32,
-    )?;
-    page.leave();
-    page.line()?;
-    page.put("}")?;
-    page.line()?;
-    Ok(end)
+
+    // `give`, and the place after it.
+    fn put_give(&mut self, conversation: u32, value: usize) -> Result<usize, Unprinted> {
+        let c = self.talk(conversation);
+        write!(self.page, "give ")?;
+        let end = self.put_value(value)?;
+        write!(self.page, " to {c};")?;
+        Ok(end)
+    }
+
+    fn put_take(&mut self, conversation: u32, variable: u32) -> Result<(), Unprinted> {
+        let c = self.talk(conversation);
+        let x = self.variable(variable);
+        write!(self.page, "take {x} from {c};")?;
+        Ok(())
+    }
+
+    fn put_choose(&mut self, conversation: u32, way: u32) -> Result<(), Unprinted> {
+        let c = self.talk(conversation);
+        match way {
+            0 => write!(self.page, "choose first in {c};")?,
+            1 => write!(self.page, "choose second in {c};")?,
+            _ => write!(self.page, "choose ?{way} in {c};")?,
+        }
+        Ok(())
+    }
+
+    // `set`, and the place after it.
+    fn put_set(&mut self, variable: u32, value: usize) -> Result<usize, Unprinted> {
+        let x = self.variable(variable);
+        write!(self.page, "set {x} = ")?;
+        let end = self.put_value(value)?;
+        write!(self.page, ";")?;
+        Ok(end)
+    }
+
+    // `show`, and the place after it.
+    fn put_show(&mut self, value: usize) -> Result<usize, Unprinted> {
+        write!(self.page, "show ")?;
+        let end = self.put_value(value)?;
+        write!(self.page, ";")?;
+        Ok(end)
+    }
+
+    // `start`, after which there is one conversation more, and the place after it.
+    fn put_start(&mut self, call: Call) -> Result<usize, Unprinted> {
+        write!(self.page, "start ")?;
+        let end = self.put_call(call)?;
+        let talk = self.talks;
+        write!(self.page, " as c{talk};")?;
+        self.talks = talk.saturating_add(1);
+        Ok(end)
+    }
+
+    // `become`, and the place after it.
+    fn put_become(&mut self, call: Call) -> Result<usize, Unprinted> {
+        write!(self.page, "become ")?;
+        let end = self.put_call(call)?;
+        write!(self.page, ";")?;
+        Ok(end)
+    }
+
+    // `if`, and the place where its first way begins.
+    fn put_if(&mut self, condition: usize) -> Result<usize, Unprinted> {
+        write!(self.page, "if ")?;
+        let first = self.put_value(condition)?;
+        write!(self.page, " {{")?;
+        self.page.enter();
+        self.open.push(Open::Else(self.talks))?;
+        Ok(first)
+    }
+
+    // `offer`, whose first way begins.
+    fn put_offer(&mut self, conversation: u32) -> Result<(), Unprinted> {
+        let c = self.talk(conversation);
+        write!(self.page, "offer in {c} {{")?;
+        self.page.enter();
+        self.page.line()?;
+        write!(self.page, "first:")?;
+        self.page.enter();
+        self.open.push(Open::SecondWay(self.talks))?;
+        Ok(())
+    }
+
+    // The action at a place; the place after it, where for `if` and `offer` the first way begins.
+    fn put_action(&mut self, action: Instruction, at: usize) -> Result<usize, Unprinted> {
+        match action {
+            Instruction::Stop => {
+                write!(self.page, "stop;")?;
+                Ok(at.saturating_add(1))
+            }
+            Instruction::Give {
+                conversation,
+                value,
+            } => self.put_give(conversation, value),
+            Instruction::Take {
+                conversation,
+                variable,
+                next,
+            } => {
+                self.put_take(conversation, variable)?;
+                Ok(next)
+            }
+            Instruction::Choose {
+                conversation,
+                way,
+                next,
+            } => {
+                self.put_choose(conversation, way)?;
+                Ok(next)
+            }
+            Instruction::Offer {
+                conversation,
+                first,
+            } => {
+                self.put_offer(conversation)?;
+                Ok(first)
+            }
+            Instruction::Set { variable, value } => self.put_set(variable, value),
+            Instruction::If { condition } => self.put_if(condition),
+            Instruction::Show { value } => self.put_show(value),
+            Instruction::Start { call } => self.put_start(call),
+            Instruction::Become { call } => self.put_become(call),
+        }
+    }
+
+    // After a last action: closes what it ends, up to the next way that begins. Answers whether one does; else the
+    // process ends.
+    fn close(&mut self) -> Result<bool, Unprinted> {
+        while let Some(open) = self.open.pop() {
+            self.page.leave();
+            match open {
+                Open::Else(talks) => {
+                    self.page.line()?;
+                    write!(self.page, "}} else {{")?;
+                    self.page.enter();
+                    self.open.push(Open::If)?;
+                    self.talks = talks;
+                    return Ok(true);
+                }
+                Open::SecondWay(talks) => {
+                    self.page.line()?;
+                    write!(self.page, "second:")?;
+                    self.page.enter();
+                    self.open.push(Open::Offer)?;
+                    self.talks = talks;
+                    return Ok(true);
+                }
+                Open::If => {}
+                Open::Offer => self.page.leave(),
+            }
+            self.page.line()?;
+            write!(self.page, "}}")?;
+        }
+        Ok(false)
+    }
+
+    // What a process does from a place on; the place after it.
+    fn put_actions(&mut self, begin: usize) -> Result<usize, Unprinted> {
+        let mut at = begin;
+        for _ in 0..self.words.len() {
+            let action = instruction_at(self.words, at).ok_or(Unprinted::NoProgram)?;
+            self.page.line()?;
+            at = self.put_action(action, at)?;
+            let last = matches!(action, Instruction::Stop | Instruction::Become { .. });
+            if last && !self.close()? {
+                return Ok(at);
+            }
+        }
+        Err(Unprinted::NoProgram)
+    }
+
+    // The conversations of a process, in parentheses, with the points at which they begin.
+    fn put_points(&mut self, talks: &[u32]) -> Result<(), Unprinted> {
+        for (i, t) in talks.iter().enumerate() {
+            let before = if i == 0 { "(" } else { ", " };
+            let point = self.layout.name(*t);
+            write!(self.page, "{before}c{i}: {point}")?;
+        }
+        if !talks.is_empty() {
+            write!(self.page, ")")?;
+        }
+        Ok(())
+    }
+
+    // The names of variables from one number up to another.
+    fn put_variables(&mut self, first: &str, from: u32, to: u32) -> Result<(), Unprinted> {
+        for x in from..to {
+            let before = if x == from { first } else { ", " };
+            write!(self.page, "{before}v{x}")?;
+        }
+        Ok(())
+    }
+
+    // The process at a place, by its number; the place after it.
+    pub fn put(&mut self, number: usize, at: usize) -> Result<usize, Unprinted> {
+        let words = self.words;
+        let head = head_at(words, at).ok_or(Unprinted::NoProgram)?;
+        self.variables = head.variables.min(16);
+        self.talks = head.count.min(16) as u32;
+        self.page.line()?;
+        write!(self.page, "process p{number}")?;
+        self.put_points(talks_of(words, head))?;
+        self.put_variables(" with ", 0, head.numbers.min(self.variables))?;
+        write!(self.page, " {{")?;
+        self.page.enter();
+        if head.numbers < self.variables {
+            self.page.line()?;
+            self.put_variables("var ", head.numbers, self.variables)?;
+            write!(self.page, ";")?;
+        }
+        let end = self.put_actions(head.body)?;
+        self.page.leave();
+        self.page.line()?;
+        write!(self.page, "}}")?;
+        self.page.line()?;
+        Ok(end)
+    }
 }

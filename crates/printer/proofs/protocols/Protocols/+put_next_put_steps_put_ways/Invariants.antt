@@ -1,5 +1,5 @@
 use Rattle.std.proofs.Common.{◌+◌, ◌*◌}
-use Rattle.printer.proofs.protocols.+put_next_put_steps_put_ways.Given as goal
+use Rattle.printer.proofs.protocols.Protocols.+put_next_put_steps_put_ways.Given as goal
 
 abbrev pub decreases-put_next : goal.decreases-put_next
 decreases-put_next l = 3 * l.depth + 1

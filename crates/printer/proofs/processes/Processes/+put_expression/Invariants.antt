@@ -1,4 +1,4 @@
-use Rattle.printer.proofs.expressions.+put_expression.Given as goal
+use Rattle.printer.proofs.processes.Processes.+put_expression.Given as goal
 
 abbrev pub decreases-put_expression : goal.decreases-put_expression
 decreases-put_expression l = l.depth

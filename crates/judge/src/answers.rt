@@ -24,8 +24,8 @@ impl Answers for Judging {
 // Prints the text of rows.
 fn print_program(rt: &HostRuntime, source: Source<'_>, mut line: Line) -> Result<(), Failed> {
     let name = source.called();
-    if line.finish()? {
-        if let Some(printed) = print_text(rt.alloc(), line.words())? {
+    if let Some(words) = line.finish()? {
+        if let Some(printed) = print_text(rt.alloc(), words)? {
             let text = printed.text;
             print!(rt; "{text}")?;
             if !printed.same {

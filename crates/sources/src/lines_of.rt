@@ -33,10 +33,9 @@ fn end_line<A: Answers>(
     line: &mut Line,
     out: &mut String,
 ) -> Result<(), Failed> {
-    if line.finish()? {
-        answers.answer(rt, line.words(), out)?;
-    } else {
-        out.push_str(answers.refusal())?;
+    match line.finish()? {
+        Some(words) => answers.answer(rt, words, out)?,
+        None => out.push_str(answers.refusal())?,
     }
     line.clear();
     print_full(rt, out)

@@ -106,11 +106,11 @@ fn tell(
     out: &mut String,
 ) -> Result<(), Failed> {
     let mut map = Map::empty();
-    if !read(named.rows, &mut map) {
+    let Some(rows) = read(named.rows, &mut map) else {
         return Ok(());
-    }
-    let rows = count.min(left.len());
-    tell_by(heap, &*named, &map, &left[0..rows], seed, dot, out)
+    };
+    let told = &left[..count.min(left.len())];
+    tell_by(heap, &*named, rows.map, told, seed, dot, out)
 }
 
 // Looks at one order. If it jams, tells who waits for whom; if the program cannot be run at all, says so.

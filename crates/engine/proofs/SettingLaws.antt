@@ -1,11 +1,10 @@
 -- The configuration in which a run begins is held by the words.
-use Rattle.std.proofs.Common.{◌≡◌, ℕ, zero, suc, ◌+◌, ◌-◌, ◌*◌, ◌<◌, ◌≤◌, max, List, [], ◌∷◌, length, get_or, take, set, sym, refl, ap, ◌∙◌, subst, arith, length-set, get_or-set_same}
+use Rattle.std.proofs.Common.{◌≡◌, ℕ, zero, suc, ◌<◌, ◌≤◌, List, [], ◌∷◌, length, get_or, take, set, sym, refl, ap, ◌∙◌, subst, arith, length-set, get_or-set_same}
 use mathlib.Core.Option.{Option, some, none}
 use Rattle.rows.specs.declared.decode.Head.{Head}
 use Rattle.model.specs.Program.{nth, Program, Process}
 use Rattle.model.specs.Steps.{Endpoint, running, Worker, Configuration, begun, first_worker, begin, pad, end}
-use Rattle.records.specs.Tables.{table}
-use Rattle.records.specs.Records.{record_at, Kept}
+use Rattle.records.specs.Records.{record_at}
 use Rattle.queues.specs.Lines.{who_of, waiter_at}
 use Rattle.queues.specs.Slots.{queue}
 use Rattle.queues.specs.Rings.{items}

@@ -1,5 +1,5 @@
 -- Orders that are drawn.
-use Rattle.std.specs.Prelude.{ℕ, ◌<◌}
+use Rattle.std.specs.Prelude.{◌<◌}
 use Rattle.engine.specs.declared.order.Order.{Order}
 use Rattle.engine.specs.declared.order.Order.TheVariants.{Fixed, Drawn}
 

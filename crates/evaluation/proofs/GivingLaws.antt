@@ -1,5 +1,5 @@
 -- What the loops keep that give ends and numbers to a record, or take conversations from it.
-use Rattle.std.proofs.Common.{◌≡◌, ℕ, suc, ◌+◌, ◌<◌, ◌≤◌, List, [], ◌∷◌, ◌++◌, length, get_or, take, map, None, Option as Maybe, sym, refl, ap, ◌∙◌, append_assoc, append-nil, add-one, arith, length-append, length-take, take-suc}
+use Rattle.std.proofs.Common.{◌≡◌, ℕ, ◌+◌, ◌<◌, ◌≤◌, List, [], ◌∷◌, ◌++◌, length, get_or, take, map, None, Option as Maybe, sym, refl, ap, ◌∙◌, append_assoc, append-nil, add-one, arith, length-append, length-take, take-suc}
 use Rattle.std.proofs.lemmas.List.{map-append, length-map}
 use mathlib.Core.Option.{Option, none}
 use Rattle.model.specs.Program.{put}

@@ -1,5 +1,5 @@
 -- The value of an expression from its term and the values of its parts.
-use Rattle.std.proofs.Common.{◌≡◌, ℕ, zero, suc, ◌+◌, ◌-◌, ◌<◌, ◌≤◌, List, [], ◌∷◌, ◌++◌, length, get_or, Some, None, refl, ap, subst, arith, length-append}
+use Rattle.std.proofs.Common.{◌≡◌, ℕ, zero, suc, ◌+◌, ◌-◌, ◌≤◌, List, [], ◌∷◌, ◌++◌, length, get_or, Some, None, refl, ap, subst, arith, length-append}
 use Rattle.model.specs.Program.{Expression, value}
 use Rattle.model.specs.Rows.{row_e, deep_e}
 use Rattle.rows.specs.declared.decode.Operator.{Operator}

@@ -9,7 +9,7 @@ use Rattle.model.specs.Waiting.{awaits, WaitsAt, WaitsFor, Hops}
 use Rattle.records.specs.declared.process.End.{End}
 use Rattle.records.specs.Records.{record_at, endpoint, viewed}
 use Rattle.queues.specs.Lines.{facing}
-use Rattle.turns.specs.Holding.{Holds, Holding}
+use Rattle.turns.specs.Holding.{Holding}
 use Rattle.turns.specs.Scheduling.{wish, end_of, waiting}
 use Rattle.jams.specs.Told.{WaitsAt as WaitsAtEnd, HoldsEnd, HolderIs, NoneBefore}
 use Rattle.engine.specs.Outs.{Same}

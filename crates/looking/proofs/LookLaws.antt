@@ -1,5 +1,5 @@
 -- A run in which each step is looked for, from step to step.
-use Rattle.std.proofs.Common.{◌≡◌, ℕ, suc, ◌+◌, ◌<◌, ◌≤◌, List, [], ◌∷◌, ◌++◌, length, Bool, Option, Ok, Err, refl, sym, ap, ◌∙◌, subst, append-nil, add-one, arith}
+use Rattle.std.proofs.Common.{◌≡◌, ℕ, suc, ◌+◌, ◌<◌, ◌≤◌, List, [], ◌∷◌, ◌++◌, length, Bool, Option, Ok, Err, sym, ap, ◌∙◌, subst, append-nil, add-one, arith}
 use Rattle.model.specs.Program.{Program}
 use Rattle.model.specs.Steps.{Configuration, more}
 use Rattle.model.specs.Theorems.{Still}

@@ -22,7 +22,7 @@ use Rattle.model.proofs.Lists.{nth_below, nth_there}
 use Rattle.starting.specs.Begins.{Begins, Settles}
 use Rattle.looking.specs.declared.advance.Progress.{Progress}
 use Rattle.looking.specs.declared.advance.Progress.TheVariants.{On, Shown, Started}
-use Rattle.looking.specs.Moving.{Moved, Each, told, Fails, Advanced}
+use Rattle.looking.specs.Moving.{Moved, told, Fails, Advanced}
 use Rattle.looking.proofs.ReadyLaws.{all_others, before_all}
 
 clash : {A : Type 0} → ◌≡◌ {A = ℕ} 0 1 → A

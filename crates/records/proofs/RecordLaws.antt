@@ -1,5 +1,5 @@
 -- Words written in a record: one variable or end is another, or there is one more.
-use Rattle.std.proofs.Common.{◌≡◌, ℕ, zero, suc, ◌+◌, ◌<◌, ◌≤◌, min, Bool, not, eqb, List, [], ◌∷◌, ◌++◌, length, get_or, take, drop, set, sym, refl, ap, ◌∙◌, arith, drop-cons, length-set, get_or-set_other, get_or-set_same, ◌≢◌}
+use Rattle.std.proofs.Common.{◌≡◌, ℕ, zero, suc, ◌+◌, ◌<◌, ◌≤◌, min, not, eqb, List, [], ◌∷◌, ◌++◌, length, get_or, take, drop, set, sym, refl, ap, ◌∙◌, arith, length-set, get_or-set_other, get_or-set_same, ◌≢◌}
 use mathlib.Core.Option.{Option, some, none}
 use Rattle.model.specs.Program.{or, put, bit}
 use Rattle.model.specs.Steps.{Endpoint, end}

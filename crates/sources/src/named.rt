@@ -18,7 +18,13 @@ pub struct Named<'a> {
 // The process of the program that a place of the rows belongs to.
 pub fn process_of_place(map: &Map, place: usize) -> u32 {
     let mut found = 0;
-    for (k, at) in map.processes.at.iter().take(map.processes.count).enumerate() {
+    for (k, at) in map
+        .processes
+        .at
+        .iter()
+        .take(map.processes.count)
+        .enumerate()
+    {
         if *at as usize <= place {
             found = k as u32;
         }

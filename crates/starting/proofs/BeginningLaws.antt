@@ -1,12 +1,11 @@
 -- The records of a process that begins and of its starter, from the writes one after the other.
-use Rattle.std.proofs.Common.{◌≡◌, ℕ, ◌<◌, List, [], ◌∷◌, length, refl, ap, ◌∙◌, arith}
-use mathlib.Core.Option.{Option, some, none}
+use Rattle.std.proofs.Common.{◌≡◌, ℕ, ◌<◌, List, [], ◌∷◌, length, refl, ◌∙◌, arith}
+use mathlib.Core.Option.{Option, none}
 use Rattle.model.specs.Program.{put}
-use Rattle.model.specs.Steps.{Endpoint, without, own_end}
-use Rattle.records.specs.Records.{Record, record_at, Kept, begins, with_end, spends, moved}
-use Rattle.evaluation.specs.Handing.{with_ends, with_numbers, taken_from}
+use Rattle.model.specs.Steps.{Endpoint, without}
+use Rattle.records.specs.Records.{Record}
+use Rattle.evaluation.specs.Handing.{taken_from}
 use Rattle.model.proofs.Lists.{length_put}
-use Rattle.starting.specs.Beginning.{begun_with, released}
 
 pub length_without : (es : List (Option Endpoint)) (cs : List ℕ) → length (without es cs) ≡ length es
 length_without es [] = refl

@@ -1,6 +1,5 @@
-use Rattle.std.proofs.Common.{sym, ap, ◌∙◌, length}
-use Rattle.rows.specs.Decode.{talk_at}
-use Rattle.engine.proofs.ActLaws.{nothing_there, nothing_else}
+use Rattle.std.proofs.Common.{length}
+use Rattle.engine.proofs.ActLaws.{nothing_there}
 use Rattle.engine.proofs.act.act_alone.Goals as goal
 
 pub returns-in_default-clause-begins : goal.returns-in_default-clause-begins

@@ -1,4 +1,4 @@
-use Rattle.std.proofs.Common.{get_or, take, refl, ap, ◌∙◌, take_all, arith}
+use Rattle.std.proofs.Common.{get_or, refl, ap, ◌∙◌, take_all, arith}
 use Rattle.records.specs.Records.{record_of, cleared}
 use Rattle.evaluation.specs.Handing.{taken_from}
 use Rattle.evaluation.proofs.GivingLaws.{clears_more}

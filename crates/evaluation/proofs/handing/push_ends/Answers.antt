@@ -1,4 +1,4 @@
-use Rattle.std.proofs.Common.{◌<◌, length, get_or, take, map, None, ap, ◌∙◌, subst, sym, take_all, arith}
+use Rattle.std.proofs.Common.{◌<◌, length, get_or, map, None, ap, ◌∙◌, subst, sym, take_all, arith}
 use Rattle.records.specs.Records.{record_of, viewed, with_end}
 use Rattle.evaluation.specs.Handing.{with_ends}
 use Rattle.evaluation.proofs.GivingLaws.{ends_none, ends_more, ends_few}

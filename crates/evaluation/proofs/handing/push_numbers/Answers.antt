@@ -1,4 +1,4 @@
-use Rattle.std.proofs.Common.{◌<◌, length, get_or, take, ap, ◌∙◌, subst, sym, take_all, arith}
+use Rattle.std.proofs.Common.{◌<◌, length, get_or, ap, ◌∙◌, subst, sym, take_all, arith}
 use Rattle.records.specs.Records.{record_of, with_number}
 use Rattle.evaluation.specs.Handing.{with_numbers}
 use Rattle.evaluation.proofs.GivingLaws.{numbers_none, numbers_more, numbers_few}

@@ -1,4 +1,4 @@
-use Rattle.std.proofs.Common.{◌≡◌, ℕ, ◌<◌, length}
+use Rattle.std.proofs.Common.{◌≡◌, ◌<◌, length}
 use Rattle.turns.specs.Holding.{potential}
 use Rattle.looking.specs.Looking.{EachRun, Standing}
 use Rattle.looking.proofs.run.look_on.Given as goal

@@ -1,4 +1,4 @@
-use Rattle.std.proofs.Common.{◌≡◌, ℕ, length}
+use Rattle.std.proofs.Common.{◌≡◌, length}
 use Rattle.engine.specs.Running.{Each, measure}
 use Rattle.engine.specs.Ending.{Reached}
 use Rattle.engine.proofs.step.Run.run_on.Given as goal

@@ -1,4 +1,4 @@
-use Rattle.std.proofs.Common.{suc, ◌+◌, refl, arith}
+use Rattle.std.proofs.Common.{suc, refl, arith}
 use Rattle.std.proofs.lemmas.Result.{err_from_is_err_and}
 use Rattle.queues.specs.Rings.{items, taken}
 use Rattle.engine.proofs.RunLaws.{before, who_below, went_off, went_on_none, went_shown, went_hidden, room_for, went_both, new_not, one_more, breaks, turn_is}

@@ -1,4 +1,4 @@
-use Rattle.std.proofs.Common.{get_or, refl, length-set, arith}
+use Rattle.std.proofs.Common.{get_or, length-set, arith}
 use Rattle.queues.proofs.RingLaws.{gone}
 use Rattle.queues.proofs.ring.Queue.leave.Goals as goal
 

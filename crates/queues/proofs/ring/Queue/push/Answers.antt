@@ -1,4 +1,4 @@
-use Rattle.std.proofs.Common.{get_or, refl, length-set, arith}
+use Rattle.std.proofs.Common.{refl, length-set}
 use Rattle.queues.proofs.RingLaws.{pushed}
 use Rattle.queues.proofs.ring.Queue.push.Goals as goal
 

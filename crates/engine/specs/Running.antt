@@ -64,3 +64,16 @@ abbrev pub Leaves : List ℕ → Map → List ℕ → List ℕ → Run → Run �
 Leaves s m shown shown' r r' (Ok _) = Unit {0}
 Leaves s m shown shown' r r' (Err Crowded) = Each s m shown r (λ g a old. shown' ≡ shown)
 Leaves s m shown shown' r r' (Err Odd) = Each s m shown r (λ g a old. Alike r r' × (shown' ≡ shown))
+
+-- how many processes there are, how many numbers were shown, the order, and where the queue begins and ends are as they were
+pub record Unmoved (r r' : Run) : Type 0 where
+  pub count : r'.count ≡ r.count
+  pub total : r'.total ≡ r.total
+  pub order : r'.order ≡ r.order
+  pub head : r'.ready.head ≡ r.ready.head
+  pub ready : r'.ready.count ≡ r.ready.count
+
+-- where a turn cannot be taken, for whatever reason, nothing of it is counted or drawn
+abbrev pub Stays : Run → Run → Result (Unit {0}) Trouble → Type 0
+Stays r r' (Ok _) = Unit {0}
+Stays r r' (Err _) = Unmoved r r'

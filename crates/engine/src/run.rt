@@ -18,7 +18,11 @@ impl Run<'_> {
         ensures tells { Tellings rows.now.words.now rows.now.map.now shown.old shown.new self.old self.new result }
     {
         while self.ready.count > 0 {
-            self.step(rows, shown)?;
+            match self.step(rows, shown) {
+                Ok(()) => {}
+                Err(Trouble::Crowded) => return Err(Trouble::Crowded),
+                Err(Trouble::Odd) => return Err(Trouble::Odd),
+            }
         }
         Ok(())
     }

@@ -27,16 +27,19 @@ pub struct Run<'a> {
 }
 
 impl Run<'_> {
-    ghost use Rattle.engine.specs.Running.{Right, Leaves};
+    ghost use Rattle.engine.specs.Running.{Right, Leaves, Stays};
 
-    // One turn of the run, of the process that is next in its order. It stays in the queue as long as it can go on.
+    // One turn of the run, of the process that is next in its order. It stays in the queue as long as it can go on. Where
+    // the turn cannot be taken, nothing of it is counted, and the same process is next.
     pub fn step(&mut self, rows: &Rows<'_>, shown: &mut [u32]) -> Result<(), Trouble>
         requires { 0 < self.old.ready.count }
         ensures room { length self.new.processes.now ≡ length self.old.processes.now }
         ensures right { Right rows.now.words.now rows.now.map.now shown.old shown.new self.old self.new result }
         ensures leaves { Leaves rows.now.words.now rows.now.map.now shown.old shown.new self.old self.new result }
+        ensures stays { Stays self.old self.new result }
     {
-        let place = self.order.draw_place(self.ready.count);
+        let mut order = self.order;
+        let place = order.draw_place(self.ready.count);
         let i = self.ready.look(place);
         if i as usize >= self.count {
             return Err(Trouble::Odd);
@@ -65,6 +68,7 @@ impl Run<'_> {
             }
             Turn::Off => self.ready.leave(place),
         }
+        self.order = order;
         Ok(())
     }
 }

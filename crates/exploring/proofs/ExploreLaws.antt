@@ -10,14 +10,12 @@ use Rattle.rows.specs.Sections.{RowsOf}
 use Rattle.turns.specs.Holding.{Holding}
 use Rattle.turns.specs.Turning.{Oddness, shared, crammed}
 use Rattle.engine.specs.Outs.{SomeAt}
-use Rattle.engine.specs.declared.step.Run.{Run}
-use Rattle.engine.specs.Ending.{Midway}
+use Rattle.engine.specs.Ending.{Midway, Finished}
 use Rattle.engine.proofs.WholeLaws.{some_worker, at_rest_empty, at_once}
 use Rattle.model.proofs.Lists.{nth_below}
 use Rattle.exploring.specs.declared.answers.Explored.{Explored}
 use Rattle.exploring.specs.declared.answers.Explored.TheVariants.{Stopped, Spent, Jammed, Crowded, Wide, Unread, Few}
 use Rattle.exploring.specs.declared.answers.Left.{Left}
-use Rattle.looking.specs.Looking.{Rests}
 use Rattle.exploring.specs.Table.{Told}
 use Rattle.exploring.proofs.KeptLaws.{not_kept, kept_jams, kept_wide}
 use Rattle.exploring.specs.Exploring.{RunSays, RunsOut, ExploreSays, ExplorePost, TellsOf, Tells}
@@ -44,14 +42,14 @@ module _ (s m : List ℕ) (procs : List (List ℕ)) (count total : ℕ) (before 
       stands stopped x y = refl
       stands spent x y = absurd (x refl)
 
-module _ (s m : List ℕ) (g : Program) (most : ℕ) (old shown : List ℕ) (k : Run) (a : Configuration) (before left : List Left) where
-  pub told_end : (r : Explored) → length k.processes.now ≡ most → Rests s m g old shown k a → Tells s k before left r → RunSays s g most old shown before left a r
-  told_end r long f t = go r (t m f.now f.holding)
+module _ (s m : List ℕ) (g : Program) (most : ℕ) (old : List ℕ) (procs : List (List ℕ)) (shown : List ℕ) (count total : ℕ) (a : Configuration) (before left : List Left) where
+  pub told_end : (r : Explored) → Finished s m g most old procs shown count total a → Tells s procs count total before left r → RunSays s g most old shown before left a r
+  told_end r f t = go r (t m f.now f.holding)
     where
       few : length f.now.workers ≤ most
       few = let x = f.few in let y = f.holding.many in omega arith
 
-      go : (r : Explored) → TellsOf s f.now k.total before left r → RunSays s g most old shown before left a r
+      go : (r : Explored) → TellsOf s f.now total before left r → RunSays s g most old shown before left a r
       go (Stopped n) x = (record { end = f.now; steps = f.steps; still = f.still; few = few; written = f.written; count = x.0 ∙ f.total_is; says = x.1 }, x.2)
       go (Spent n) x = (record { end = f.now; steps = f.steps; still = f.still; few = few; written = f.written; count = x.0 ∙ f.total_is; says = x.1 }, x.2)
       go (Jammed n l) x = record { end = f.now; steps = f.steps; still = f.still; few = few; written = f.written; count = x.0 ∙ f.total_is; says = x.1 }

@@ -8,13 +8,13 @@ use Rattle.model.specs.Theorems.{Still, AllStopped, Out}
 use Rattle.rows.specs.declared.map.Map.{Map}
 use Rattle.rows.specs.Mapped.{Mapped}
 use Rattle.turns.specs.Holding.{Holding}
-use Rattle.engine.specs.declared.step.Run.{Run}
 use Rattle.engine.specs.Shown.{overlay, counted}
 use Rattle.engine.specs.Ending.{TooMany, Written}
 use Rattle.engine.specs.Whole.{SomeWorker}
 use Rattle.exploring.specs.declared.answers.Explored.{Explored}
 use Rattle.exploring.specs.declared.answers.Explored.TheVariants.{Stopped, Spent, Jammed, Crowded, Wide, Unread, Few}
 use Rattle.exploring.specs.declared.answers.Left.{Left}
+use Rattle.looking.specs.declared.run.Look.{Look}
 use Rattle.looking.specs.Looking.{EachRun, Widens}
 use Rattle.exploring.specs.Table.{Told}
 
@@ -70,12 +70,12 @@ TellsOf s a total before left Wide = ⊥
 TellsOf s a total before left Unread = ⊥
 TellsOf s a total before left Few = ⊥
 
-abbrev pub Tells : List ℕ → Run → List Left → List Left → Explored → Type 0
-Tells s k before left r = (second : List ℕ) (a : Configuration) → Holding s second k.processes.now k.count a → TellsOf s a k.total before left r
+abbrev pub Tells : List ℕ → List (List ℕ) → ℕ → ℕ → List Left → List Left → Explored → Type 0
+Tells s procs count total before left r = (second : List ℕ) (a : Configuration) → Holding s second procs count a → TellsOf s a total before left r
 
 -- for every program that the words are the writing of, and every run that has led to where they stand
-abbrev pub LooksOut : List ℕ → Map → List ℕ → List ℕ → List Left → List Left → Run → Explored → Type 0
-LooksOut s m shown shown' before left k r = EachRun s m shown k (λ g a old. RunSays s g (length k.processes.now) old shown' before left a r)
+abbrev pub LooksOut : List ℕ → Map → List (List ℕ) → List ℕ → List ℕ → List Left → List Left → Look → Explored → Type 0
+LooksOut s m procs shown shown' before left k r = EachRun s m procs shown k (λ g a old. RunSays s g (length procs) old shown' before left a r)
 
 abbrev pub RunsOut : List ℕ → Map → ℕ → ℕ → List ℕ → List ℕ → List Left → List Left → Explored → Type 0
 RunsOut s m most turns old shown before left r = (g : Program) → Reads s g → Mapped s g m → RunSays s g most old shown before left (begin g turns) r

@@ -34,7 +34,7 @@ fn explore_in(
         return Explored::Few;
     }
     let mut map = Map::empty();
-    let Some(rows) = read(program, &mut map) else {
+    let Some(rows) = read(&mut map, program) else {
         return Explored::Unread;
     };
     run_out(&rows, most, turns, order, shown, work, left)

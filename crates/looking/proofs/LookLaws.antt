@@ -1,5 +1,5 @@
 -- A run in which each step is looked for, from step to step.
-use Rattle.std.proofs.Common.{◌≡◌, ℕ, suc, ◌+◌, ◌<◌, ◌≤◌, List, [], ◌∷◌, ◌++◌, length, Bool, Option, Ok, Err, sym, ap, ◌∙◌, subst, append-nil, add-one, arith}
+use Rattle.std.proofs.Common.{◌≡◌, ℕ, suc, ◌+◌, ◌<◌, ◌≤◌, List, [], ◌∷◌, ◌++◌, length, Bool, true, false, Option, Ok, Err, sym, ap, ◌∙◌, subst, append-nil, add-one, arith}
 use Rattle.model.specs.Program.{Program}
 use Rattle.model.specs.Steps.{Configuration, more}
 use Rattle.model.specs.Theorems.{Still}
@@ -15,8 +15,8 @@ use Rattle.engine.specs.Ending.{Midway, Finished, TooMany, Written}
 use Rattle.engine.proofs.EndingLaws.{steps_then}
 use Rattle.looking.specs.declared.advance.Progress.{Progress}
 use Rattle.looking.specs.Moving.{Moved, TooWide, Fails, Advanced}
-use Rattle.looking.specs.Looking.{Widens, Breaks, Standing, EachRun, StepsOn, ComesTo}
-use Rattle.engine.specs.declared.step.Run.{Run}
+use Rattle.looking.specs.Looking.{Widens, Breaks, Standing, EachRun, Rests, StepsOn, ComesTo}
+use Rattle.looking.specs.declared.run.Look.{Look}
 
 module _ (s m : List ℕ) (g : Program) (most : ℕ) (old : List ℕ) (procs : List (List ℕ)) (shown : List ℕ) (count total : ℕ) (a : Configuration) (d : Midway s m g most old procs shown count total a) where
   pub written_here : Written g old shown a
@@ -74,17 +74,20 @@ module _ (s m : List ℕ) (g : Program) (most : ℕ) (old : List ℕ) (procs : L
 pub step_is : (s : List ℕ) (m : Map) (procs procs' : List (List ℕ)) (most count : ℕ) (K : Type 0) (o p : Option Progress) → o ≡ p → Advanced s m procs procs' most count K (Ok o) → Advanced s m procs procs' most count K (Ok p)
 step_is s m procs procs' most count K o p e = subst (λ (o : Option Progress). Advanced s m procs procs' most count K (Ok o)) e
 
--- the same with as much room
-pub midway_room : (s m : List ℕ) (g : Program) (most most' : ℕ) (old : List ℕ) (procs : List (List ℕ)) (shown : List ℕ) (count total : ℕ) (a : Configuration) → most' ≡ most → (P : Type 0) → Midway s m g most old procs shown count total a × P → Midway s m g most' old procs shown count total a × P
-midway_room s m g most most' old procs shown count total a e P d = (
-  record { now = d.0.now; steps = d.0.steps; holding = d.0.holding; few = let f = d.0.few in omega arith; written = d.0.written; total_is = d.0.total_is },
-  d.1,
-)
+-- a run that has come so far goes on; there is as much room as at first
+module _ (s : List ℕ) (m : Map) (procs0 procs procs' : List (List ℕ)) (first shown shown' : List ℕ) (k0 k k' : Look) (same : length procs ≡ length procs0) (here : EachRun s m procs0 first k0 (λ g a old. Standing s m.second g (length procs0) old procs shown k a)) where
+  on : (P : ℕ → Program → Configuration → List ℕ → Type 0) → EachRun s m procs shown k (P (length procs)) → EachRun s m procs0 first k0 (P (length procs0))
+  on P x g a old reads mapped d =
+      subst (λ (n : ℕ). P n g a old) same (x g a old reads mapped (subst (λ (n : ℕ). Standing s m.second g n old procs shown k a) (sym same) (here g a old reads mapped d)))
 
--- what the last step of a run says of the whole
-module _ (s : List ℕ) (m : Map) (first shown shown' : List ℕ) (k0 k k' : Run) where
-  pub step_found : (b c : Bool) → b ≡ c → StepsOn s m shown shown' k k' (Ok b) → StepsOn s m shown shown' k k' (Ok c)
-  step_found b c e = subst (λ (b : Bool). StepsOn s m shown shown' k k' (Ok b)) e
+  pub goes_on : (b : Bool) → b ≡ true → StepsOn s m procs procs' shown shown' k k' (Ok b) → (0 < k'.count) × (k'.count ≤ length procs0) ×
+      EachRun s m procs0 first k0 (λ g a old. Standing s m.second g (length procs0) old procs' shown' k' a × (potential s procs' k'.count < potential s procs k.count))
+  goes_on false e x = let z : ◌≡◌ {A = ℕ} 0 1 = cc in absurd (omega arith)
+  goes_on true e x = (x.0, let f = x.1 in omega arith, on (λ n g a old. Standing s m.second g n old procs' shown' k' a × (potential s procs' k'.count < potential s procs k.count)) x.2)
 
-  pub comes_err : length k.processes.now ≡ length k0.processes.now → EachRun s m first k0 (λ g a old. Standing s m.second g old shown k a) → (e : Trouble) → StepsOn s m shown shown' k k' (Err e) → ComesTo s m first shown' k0 k' (Err e)
-  comes_err same f e x g a old reads mapped d = subst (λ (n : ℕ). Breaks g n old shown' a e) same (x g a old reads mapped (f g a old reads mapped d))
+  pub comes_end : (b : Bool) → b ≡ false → StepsOn s m procs procs' shown shown' k k' (Ok b) → ComesTo s m procs0 procs' first shown' k0 (Ok k')
+  comes_end true e x = let z : ◌≡◌ {A = ℕ} 0 1 = cc in absurd (omega arith)
+  comes_end false e x = on (λ n g a old. Rests s m.second g n old procs' shown' k' a) x
+
+  pub comes_err : (e : Trouble) → StepsOn s m procs procs' shown shown' k k' (Err e) → ComesTo s m procs0 procs' first shown' k0 (Err e)
+  comes_err e x = on (λ n g a old. Breaks g n old shown' a e) x

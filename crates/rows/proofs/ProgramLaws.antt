@@ -116,7 +116,7 @@ module _ {s places second : List ℕ} {i k j : ℕ} (a : Processed s places seco
           let l2 = length-append (row_rs r.them) (drop j s) in
           absurd (omega arith)
 
-  pub processed_full : j < length s → k ≡ 64 → NoProcesses s i
+  pub processed_full : j < length s → 64 ≤ k → NoProcesses s i
   processed_full lt full ps few h f = let m = one_more lt ps h f in let n = m.many in omega arith
 
   pub processed_stuck : j < length s → NoProcess s j → NoProcesses s i
@@ -154,7 +154,7 @@ module _ {s table : List ℕ} {n sides : ℕ} (first : get_or s 0 0 ≡ n) (a : 
 
 -- The map that says where the points and the processes are is that of the program.
 module _ {s : List ℕ} {n : ℕ} (m : Map) (first : get_or s 0 0 ≡ n) (a : PointsAt s m.points.at 1 n m.sides) (b : ProcessesAt s m.processes.at m.second (m.sides + n) m.processes.count)
-    (counted : m.points.count ≡ n) (room : n ≤ length s - m.sides) (some_word : 0 < length s) (short : length s ≤ 16384) where
+    (counted : m.points.count ≡ n) (fit : n ≤ 256) (room : n ≤ length s - m.sides) (some_word : 0 < length s) (short : length s ≤ 16384) where
   abbrev sides_of : List ℕ
   sides_of = front n (drop m.sides s)
 
@@ -169,7 +169,7 @@ module _ {s : List ℕ} {n : ℕ} (m : Map) (first : get_or s 0 0 ≡ n) (a : Po
   program_reads =
       let e1 : s ≡ get_or s 0 0 ∷ drop 1 s = drop_one s 0 some_word in
       let e2 : drop m.sides s ≡ sides_of ++ drop (m.sides + n) s = drop_list s m.sides n in
-      let many = a.many in let l = long in let few = m.points.few in
+      let many = a.many in let l = long in
       record {
         rows = sym (e1 ∙ cc (a.rows, b.rows));
         words = short;

@@ -3,3 +3,4 @@ pub mod Decode
 pub mod Reading
 pub mod Mapped
 pub mod Sections
+pub mod Lending

@@ -7,6 +7,7 @@ mod expressions;
 pub mod lookup;
 pub mod map;
 pub mod narrow;
+mod numbers;
 mod sections;
 mod unread;
 

@@ -1,8 +1,9 @@
 // Points and processes of rows, by their numbers, in constant time.
 ghost use Rattle.std.specs.Prelude.{◌≡◌, ◌+◌, ◌≤◌, length, IfSome, slice_index};
 
-use crate::decode::{Head, PointKind, head_at, point_at};
+use crate::decode::{Head, PointKind};
 use crate::map::Map;
+pub use crate::numbers::{other_of, point_of, process_of};
 
 // Words, no more than a program may have, with what the reader found in them.
 #[derive(Clone, Copy)]
@@ -19,18 +20,14 @@ impl Rows<'_> {
     pub fn point(&self, point: u32) -> Option<PointKind>
         ensures { Of self.now (λ g. PointIs g point result) }
     {
-        point_at(self.words, self.map.points.get(point)?)
+        point_of(self.words, self.map, point)
     }
 
     // The other side's point, if the point is there.
     pub fn other(&self, point: u32) -> Option<u32>
         ensures { Of self.now (λ g. OtherIs g point result) }
     {
-        let i = point as usize;
-        if i >= self.map.points.count {
-            return None;
-        }
-        self.words.get(self.map.sides..)?.get(i).copied()
+        other_of(self.words, self.map, point)
     }
 
     // The beginning of a process, if it is there.
@@ -38,7 +35,7 @@ impl Rows<'_> {
         ensures within { IfSome result (λ h. (h.talks + h.count ≤ h.body) × (h.body ≤ length self.now.words.now)) }
         ensures is { Of self.now (λ g. ProcessIs self.now.words.now self.now.map.now.second g process result) }
     {
-        head_at(self.words, self.map.processes.get(process)?)
+        process_of(self.words, self.map, process)
     }
 }
 

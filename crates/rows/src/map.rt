@@ -1,12 +1,12 @@
 // Where things stand in the rows of a program.
-ghost use Rattle.std.specs.Prelude.{◌≡◌, ◌+◌, ◌<◌, ◌≤◌, length, replicate, MatchOption, slice_index, slice_set};
+ghost use Rattle.std.specs.Prelude.{◌≡◌, ◌+◌, ◌<◌, ◌≤◌, ◌⊎◌, length, replicate, MatchOption, slice_index, slice_set};
 
-// Places of the rows, by numbers from 0 on, and how many there are. The buffer is fixed, since the project takes no heap.
+// Places of the rows, by numbers from 0 on, and how many there are, of which no more than N are kept. The buffer is fixed,
+// since the project takes no heap.
 #[derive(Clone, Copy)]
 pub struct Places<const N: usize> {
     pub count: usize,
     pub at: [u16; N],
-    pub ghost few: { count ≤ N },
     pub ghost wide: { length at ≡ N },
 }
 
@@ -21,12 +21,15 @@ impl<const N: usize> Places<N> {
         }
     }
 
-    // The place with a number, if there are so many.
+    // The place with a number, if there are so many and it is kept.
     pub fn get(&self, number: u32) -> Option<usize>
-        ensures { MatchOption result (self.now.count ≤ number) (λ at. (number < self.now.count) × (at ≡ slice_index self.now.at number)) }
+        ensures { MatchOption result ((self.now.count ≤ number) ⊎ (N ≤ number)) (λ at. (number < self.now.count) × (number < N) × (at ≡ slice_index self.now.at number)) }
     {
         let i = number as usize;
         if i >= self.count {
+            return None;
+        }
+        if i >= N {
             return None;
         }
         Some(usize::from(self.at[i]))
@@ -34,9 +37,9 @@ impl<const N: usize> Places<N> {
 
     // One more place, if there is room.
     pub(crate) fn add(&mut self, place: u16) -> Option<()>
-        ensures { MatchOption result (self.old.count ≡ N) (λ _. (self.old.count < N) × (self.new.count ≡ self.old.count + 1) × (self.new.at ≡ slice_set self.old.at self.old.count place)) }
+        ensures { MatchOption result (N ≤ self.old.count) (λ _. (self.old.count < N) × (self.new.count ≡ self.old.count + 1) × (self.new.at ≡ slice_set self.old.at self.old.count place)) }
     {
-        if self.count == N {
+        if self.count >= N {
             return None;
         }
         self.at[self.count] = place;

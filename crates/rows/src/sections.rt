@@ -1,7 +1,9 @@
 // The sections of the rows: points, other sides, processes; and whether the whole is a program.
+ghost use Rattle.std.specs.Borrow.{sem};
 ghost use Rattle.std.specs.Prelude.{◌≡◌, ◌≤◌, length, IfSome};
 ghost use Rattle.model.specs.Rows.{row_p};
 ghost use Rattle.rows.specs.Decode.{said};
+ghost use Rattle.rows.specs.Lending.{LeavesMap};
 ghost use Rattle.rows.specs.Reading.{SameBelow};
 ghost use Rattle.rows.specs.Sections.{PointsEnd, ProcessEnd, ProcessesEnd, Fills, ReadSays};
 
@@ -92,9 +94,11 @@ fn fill(program: &[u32], map: &mut Map) -> Option<()>
     Some(())
 }
 
-// The rows of a program, if the words are one. The map is lent for what is found in them.
-pub fn read<'a>(program: &'a [u32], map: &'a mut Map) -> Option<Rows<'a>>
-    ensures { ReadSays program.now result }
+// The rows of a program, if the words are one. The map is lent for what is found in them, and is that of the program
+// when the rows are given back.
+pub fn read<'a>(map: &'a mut Map, program: &'a [u32]) -> Option<Rows<'a>>
+    ensures* leaves { sem 𝓛 (LeavesMap map.entry result) }
+    ensures says { ReadSays program.now result }
 {
     fill(program, &mut *map)?;
     Some(Rows {

@@ -25,10 +25,10 @@ pub fn judge(program: &[u32]) -> Judged
     ensures only { Only program.now result }
 {
     let mut map = Map::empty();
-    match read(program, &mut map) {
+    match read(&mut map, program) {
         None => Judged::NoProgram,
         Some(rows) => {
-            if program_keeps(&rows) {
+            if program_keeps(rows.words, rows.map) {
                 Judged::Keeps
             } else {
                 Judged::Careless
@@ -52,10 +52,10 @@ fn run_in(
         return Ran::Few;
     }
     let mut map = Map::empty();
-    let Some(rows) = read(program, &mut map) else {
+    let Some(rows) = read(&mut map, program) else {
         return Ran::Unread;
     };
-    if !program_keeps(&rows) {
+    if !program_keeps(rows.words, rows.map) {
         return Ran::Unkept;
     }
     run_lent(&rows, most, turns, shown, work, order)

@@ -106,7 +106,7 @@ fn tell(
     out: &mut String,
 ) -> Result<(), Failed> {
     let mut map = Map::empty();
-    let Some(rows) = read(named.rows, &mut map) else {
+    let Some(rows) = read(&mut map, named.rows) else {
         return Ok(());
     };
     let told = &left[..count.min(left.len())];

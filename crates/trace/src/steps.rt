@@ -127,7 +127,7 @@ pub fn trace_run(
     out: &mut String,
 ) -> Result<(), Failed> {
     let mut map = Map::empty();
-    let Some(rows) = read(named.rows, &mut map) else {
+    let Some(rows) = read(&mut map, named.rows) else {
         return Ok(());
     };
     if work.len() < 67 * wanted.most as usize {

@@ -9,6 +9,6 @@ use Rattle.judging.proofs.points.points_keep.Goals as goal
 
 pub returns : goal.returns
 returns c g known =
-    let n = known.mapped.point_count in
-    all_from_yields_List (λ i. then (nth g.points i) (PointFits g i)) _ _ c.all.result c.all.ensures.ran (YieldsList-from_range 0 c.args.rows.now.map.now.points.count (length g.points) refl (omega arith)) (λ x b q k. search (rules, tests))
+    let n = known.mapped.point_count in let few = known.reads.points in
+    all_from_yields_List (λ i. then (nth g.points i) (PointFits g i)) _ _ c.all.result c.all.ensures.ran (YieldsList-from_range 0 c.min.result (length g.points) refl (omega arith)) (λ x b q k. search (rules, tests))
     ∙ tested (PointFits g) (points_fit g) (λ i. refl) (λ i x xs. refl) g.points

@@ -9,6 +9,6 @@ use Rattle.judging.proofs.program.processes_keep.Goals as goal
 
 pub returns : goal.returns
 returns c g known =
-    let n = known.mapped.process_count in
-    all_from_yields_List (λ i. then (nth g.procs i) (ProcessKeeps g i)) _ _ c.all.result c.all.ensures.ran (YieldsList-from_range 0 c.args.rows.now.map.now.processes.count (length g.procs) refl (omega arith)) (λ x b q k. search (rules, tests))
+    let n = known.mapped.process_count in let few = known.reads.procs in
+    all_from_yields_List (λ i. then (nth g.procs i) (ProcessKeeps g i)) _ _ c.all.result c.all.ensures.ran (YieldsList-from_range 0 c.min.result (length g.procs) refl (omega arith)) (λ x b q k. search (rules, tests))
     ∙ tested (ProcessKeeps g) (all_keep g) (λ i. refl) (λ i x xs. refl) g.procs

@@ -12,4 +12,4 @@ returns-in_err-processes_end c =
 pub returns : goal.returns
 returns c =
     let first = c.in_ok-count.ensures.item.3 in
-    program_read _ (sym (first.1 0)) c.in_ok-sides.ensures.places c.in_ok-processes_end.ensures c.in_ok-sides.ensures.counted c.if-program-sides.false first.0 (omega arith)
+    program_read _ (sym (first.1 0)) c.in_ok-sides.ensures.places c.in_ok-processes_end.ensures c.in_ok-sides.ensures.counted (omega arith) c.if-program-sides.false first.0 (omega arith)

@@ -1,6 +1,6 @@
 use Rattle.std.proofs.Common.{refl, ◌∙◌}
-use Rattle.std.proofs.lemmas.Result.{err_from_is_err_and}
 use Rattle.model.specs.Steps.{here}
+use Rattle.turns.specs.declared.turn.Trouble.TheVariants.{Crowded, Odd}
 use Rattle.engine.proofs.EndingLaws.{reached_on, reached_still, ends_err, tells_err}
 use Rattle.engine.proofs.step.Run.run_on.Goals as goal
 
@@ -11,32 +11,33 @@ pub loop-self-smaller : goal.loop-self-smaller
 loop-self-smaller c =
     let h = c.requires in
     let d = c.loop-self.invariant.1 h.program h.configuration h.old h.reads h.mapped h.running in
-    (c.in_ok-step.ensures.right h.program d.now h.old h.reads h.mapped d.running).falls
+    (c.in-Ok.ensures.right h.program d.now h.old h.reads h.mapped d.running).falls
 
 pub loop-self-preserved : goal.loop-self-preserved
 loop-self-preserved c = (
   c.step.ensures.room ∙ c.loop-self.invariant.0,
   λ g a old reads mapped run.
       let d = c.loop-self.invariant.1 g a old reads mapped run in
-      reached_on c.args.rows.now.words.now c.args.rows.now.map.now.second g old c.loop-self.shown c.loop-self.self a d c.step.new.shown c.step.new.self (c.in_ok-step.ensures.right g d.now old reads mapped d.running),
+      reached_on c.args.rows.now.words.now c.args.rows.now.map.now.second g old c.loop-self.shown c.loop-self.self a d c.step.new.shown c.step.new.self (c.in-Ok.ensures.right g d.now old reads mapped d.running),
 )
 
-pub returns-in_err-step-clause-ends : goal.returns-in_err-step-clause-ends
-returns-in_err-step-clause-ends c =
-    let p = err_from_is_err_and c.from_residual.result c.from_residual.ensures.1 in
-    rw (p.1, p.2) (
-      c.step.ensures.room ∙ c.loop-self.invariant.0,
-      λ g a old reads mapped run.
-          ends_err c.args.rows.now.words.now c.args.rows.now.map.now g old c.loop-self.shown c.loop-self.self a (c.loop-self.invariant.1 g a old reads mapped run) reads mapped c.step.new.shown c.step.new.self
-          c.step.ensures.room c.in_err-step.field-0.0 c.in_err-step.ensures.right,
-    )
+pub returns-in-Err-Crowded-clause-ends : goal.returns-in-Err-Crowded-clause-ends
+returns-in-Err-Crowded-clause-ends c = (
+  c.step.ensures.room ∙ c.loop-self.invariant.0,
+  λ g a old reads mapped run. ends_err c.args.rows.now.words.now c.args.rows.now.map.now g old c.loop-self.shown c.loop-self.self a (c.loop-self.invariant.1 g a old reads mapped run) reads mapped c.step.new.shown c.step.new.self c.step.ensures.room Crowded (rw c.in-Err-Crowded.field-0-is at c.in-Err-Crowded.ensures.right),
+)
 
-pub returns-in_err-step-clause-tells : goal.returns-in_err-step-clause-tells
-returns-in_err-step-clause-tells c =
-    let p = err_from_is_err_and c.from_residual.result c.from_residual.ensures.1 in
-    rw (p.1, p.2) (λ g a old reads mapped run.
-    tells_err c.args.rows.now.words.now c.args.rows.now.map.now g old c.loop-self.shown c.loop-self.self a (c.loop-self.invariant.1 g a old reads mapped run) reads mapped c.step.new.shown c.step.new.self
-    c.in_err-step.field-0.0 c.in_err-step.ensures.right c.in_err-step.ensures.leaves)
+pub returns-in-Err-Crowded-clause-tells : goal.returns-in-Err-Crowded-clause-tells
+returns-in-Err-Crowded-clause-tells c g a old reads mapped run = tells_err c.args.rows.now.words.now c.args.rows.now.map.now g old c.loop-self.shown c.loop-self.self a (c.loop-self.invariant.1 g a old reads mapped run) reads mapped c.step.new.shown c.step.new.self Crowded (rw c.in-Err-Crowded.field-0-is at c.in-Err-Crowded.ensures.right) (rw c.in-Err-Crowded.field-0-is at c.in-Err-Crowded.ensures.leaves)
+
+pub returns-in-Err-Odd-clause-ends : goal.returns-in-Err-Odd-clause-ends
+returns-in-Err-Odd-clause-ends c = (
+  c.step.ensures.room ∙ c.loop-self.invariant.0,
+  λ g a old reads mapped run. ends_err c.args.rows.now.words.now c.args.rows.now.map.now g old c.loop-self.shown c.loop-self.self a (c.loop-self.invariant.1 g a old reads mapped run) reads mapped c.step.new.shown c.step.new.self c.step.ensures.room Odd (rw c.in-Err-Odd.field-0-is at c.in-Err-Odd.ensures.right),
+)
+
+pub returns-in-Err-Odd-clause-tells : goal.returns-in-Err-Odd-clause-tells
+returns-in-Err-Odd-clause-tells c g a old reads mapped run = tells_err c.args.rows.now.words.now c.args.rows.now.map.now g old c.loop-self.shown c.loop-self.self a (c.loop-self.invariant.1 g a old reads mapped run) reads mapped c.step.new.shown c.step.new.self Odd (rw c.in-Err-Odd.field-0-is at c.in-Err-Odd.ensures.right) (rw c.in-Err-Odd.field-0-is at c.in-Err-Odd.ensures.leaves)
 
 pub returns-clause-ends : goal.returns-clause-ends
 returns-clause-ends c = (

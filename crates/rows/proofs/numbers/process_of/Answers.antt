@@ -1,5 +1,5 @@
 use Rattle.rows.proofs.Lookups.{no_process, process_is}
-use Rattle.rows.proofs.lookup.Rows.process.Goals as goal
+use Rattle.rows.proofs.numbers.process_of.Goals as goal
 
 pub returns-in_err-get-clause-is : goal.returns-in_err-get-clause-is
 returns-in_err-get-clause-is c g known = rw c.from_residual.ensures (no_process known c.args.process c.in_err-get.ensures)

@@ -8,11 +8,11 @@ pub returns-then-work-most : goal.returns-then-work-most
 returns-then-work-most c = explored_few c.args.program.now c.args.most c.args.turns c.args.shown.now c.args.left.now (length c.args.work.now) (omega arith)
 
 pub returns-in_default : goal.returns-in_default
-returns-in_default c = explored_unread c.args.program.now c.args.most c.args.turns c.args.shown.now c.args.left.now (length c.args.work.now) (λ x. omega arith) c.in_default.ensures
+returns-in_default c = explored_unread c.args.program.now c.args.most c.args.turns c.args.shown.now c.args.left.now (length c.args.work.now) (λ x. omega arith) c.in_default.ensures.says
 
 pub run_out-requires : goal.run_out-requires
 run_out-requires c =
-    let r = c.in-Some.ensures in
+    let r = c.in-Some.ensures.says in
     let back = sym r.words in
     record {
       lent = omega arith;
@@ -25,5 +25,5 @@ run_out-requires c =
 
 pub returns : goal.returns
 returns c =
-    let r = c.in-Some.ensures in
+    let r = c.in-Some.ensures.says in
     explored_rows c.args.program.now c.args.most c.args.turns c.args.shown.now c.args.left.now (length c.args.work.now) c.run_out.new.shown c.run_out.new.left c.run_out.result (λ x. omega arith) c.in-Some.rows r c.run_out.ensures

@@ -7,15 +7,15 @@ use Rattle.talks.proofs.judge.Goals as goal
 
 pub returns-in-None : goal.returns-in-None
 returns-in-None c =
-    let says : JudgedSays c.args.program.now NoProgram = c.in-None.ensures in
+    let says : JudgedSays c.args.program.now NoProgram = c.in-None.ensures.says in
     record { says = says; one = one_program; only = λ q a. judged_only c.args.program.now NoProgram q says a }
 
 pub returns-then-program_keeps : goal.returns-then-program_keeps
 returns-then-program_keeps c =
-    let says : JudgedSays c.args.program.now Keeps = judged c.args.program.now c.in-Some.rows c.in-Some.ensures true c.if-program_keeps.ensures in
+    let says : JudgedSays c.args.program.now Keeps = judged c.args.program.now c.in-Some.rows c.in-Some.ensures.says true c.if-program_keeps.ensures in
     record { says = says; one = one_program; only = λ q a. judged_only c.args.program.now Keeps q says a }
 
 pub returns-else-program_keeps : goal.returns-else-program_keeps
 returns-else-program_keeps c =
-    let says : JudgedSays c.args.program.now Careless = judged c.args.program.now c.in-Some.rows c.in-Some.ensures false c.if-program_keeps.ensures in
+    let says : JudgedSays c.args.program.now Careless = judged c.args.program.now c.in-Some.rows c.in-Some.ensures.says false c.if-program_keeps.ensures in
     record { says = says; one = one_program; only = λ q a. judged_only c.args.program.now Careless q says a }

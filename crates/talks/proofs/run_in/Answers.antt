@@ -8,15 +8,15 @@ pub returns-then-work-most : goal.returns-then-work-most
 returns-then-work-most c = answer_few c.args.program.now c.args.most c.args.turns (length c.args.work.now) c.args.shown.now (omega arith)
 
 pub returns-in_default : goal.returns-in_default
-returns-in_default c = answer_unread c.args.program.now c.args.most c.args.turns (length c.args.work.now) c.args.shown.now (omega arith) c.in_default.ensures
+returns-in_default c = answer_unread c.args.program.now c.args.most c.args.turns (length c.args.work.now) c.args.shown.now (omega arith) c.in_default.ensures.says
 
 pub returns-then-not-program_keeps : goal.returns-then-not-program_keeps
-returns-then-not-program_keeps c = answer_unkept c.args.program.now c.args.most c.args.turns (length c.args.work.now) c.args.shown.now (omega arith) (judged c.args.program.now c.in-Some.rows c.in-Some.ensures false c.if-not-program_keeps.ensures)
+returns-then-not-program_keeps c = answer_unkept c.args.program.now c.args.most c.args.turns (length c.args.work.now) c.args.shown.now (omega arith) (judged c.args.program.now c.in-Some.rows c.in-Some.ensures.says false c.if-not-program_keeps.ensures)
 
 pub run_lent-requires-clause-kept : goal.run_lent-requires-clause-kept
-run_lent-requires-clause-kept c = kept_known c.args.program.now c.in-Some.rows c.in-Some.ensures c.if-not-program_keeps.ensures
+run_lent-requires-clause-kept c = kept_known c.args.program.now c.in-Some.rows c.in-Some.ensures.says c.if-not-program_keeps.ensures
 
 pub returns : goal.returns
 returns c =
-    subst (λ (x : List ℕ). GoPost x c.args.most c.args.turns c.args.shown.now c.run_lent.new.shown (length c.args.work.now) c.run_lent.result) c.in-Some.ensures.words
+    subst (λ (x : List ℕ). GoPost x c.args.most c.args.turns c.args.shown.now c.run_lent.new.shown (length c.args.work.now) c.run_lent.result) c.in-Some.ensures.says.words
     (post c.in-Some.rows.words.now c.args.most c.args.turns c.args.shown.now c.run_lent.new.shown (length c.args.work.now) c.run_lent.result c.run_lent.ensures.says c.run_lent.ensures.comes)

@@ -51,15 +51,20 @@ fn clear(lines: &mut [Line])
     }
 }
 
-// The first process begins with so many turns; whatever was in the words does not matter.
+// The first process begins with so many turns; whatever was in the words does not matter. The first so many records are
+// those of the run.
 pub fn set_up<'a>(
     rows: &Rows<'_>,
-    work: &'a mut [u32],
+    processes: &'a mut [Record],
+    lines: &'a mut [Line],
+    slots: &'a mut [u32],
     most: u32,
     turns: u32,
     order: Order,
 ) -> Result<Run<'a>, Unready>
-    requires { 67 * most ≤ length work.old }
+    requires records { most ≤ length processes.old }
+    requires sides { most ≤ length lines.old }
+    requires slots { most ≤ length slots.old }
     ensures { SetUp rows.now.words.now rows.now.map.now most turns result }
 {
     let Some(head) = process_at(rows, 0) else {
@@ -71,11 +76,7 @@ pub fn set_up<'a>(
     if head.variables > 16 {
         return Err(Unready::Empty);
     }
-    let Parts {
-        processes,
-        lines,
-        slots,
-    } = parted(work, most as usize);
+    let (processes, _) = processes.split_at_mut(most as usize);
     clear(lines);
     slots[0] = 0;
     let zeros = [0; 16];
@@ -98,4 +99,23 @@ pub fn set_up<'a>(
         total: 0,
         order,
     })
+}
+
+// The same, with records, lines and slots cut from lent words.
+pub fn set_up_lent<'a>(
+    rows: &Rows<'_>,
+    work: &'a mut [u32],
+    most: u32,
+    turns: u32,
+    order: Order,
+) -> Result<Run<'a>, Unready>
+    requires { 67 * most ≤ length work.old }
+    ensures { SetUp rows.now.words.now rows.now.map.now most turns result }
+{
+    let Parts {
+        processes,
+        lines,
+        slots,
+    } = parted(work, most as usize);
+    set_up(rows, processes, lines, slots, most, turns, order)
 }

@@ -4,7 +4,7 @@ ghost use Rattle.engine.specs.Whole.{Readable, RunsTo};
 
 use crate::order::Order;
 use crate::out::some_at;
-use crate::set_up::{Unready, set_up};
+use crate::set_up::{Unready, set_up_lent};
 use crate::step::Run;
 use records::process::Standing;
 use rows::lookup::Rows;
@@ -32,7 +32,7 @@ pub fn run_whole(
     requires readable { Readable rows.now.words.now rows.now.map.now }
     ensures { RunsTo rows.now.words.now rows.now.map.now most turns shown.old shown.new result }
 {
-    let mut run = match set_up(rows, work, most, turns, order) {
+    let mut run = match set_up_lent(rows, work, most, turns, order) {
         Ok(run) => run,
         Err(Unready::Crowded) => return Err(Trouble::Crowded),
         Err(Unready::Empty) => {

@@ -8,7 +8,7 @@ use crate::answers::{Explored, Left};
 use crate::table::fill;
 use engine::order::Order;
 use engine::out::some_at;
-use engine::set_up::{Unready, set_up};
+use engine::set_up::{Unready, set_up_lent};
 use engine::step::Run;
 use looking::run::{Look, look_on};
 use records::process::{Record, Standing};
@@ -75,7 +75,7 @@ pub fn run_out(
     requires readable { Readable rows.now.words.now rows.now.map.now }
     ensures { RunsOut rows.now.words.now rows.now.map.now most turns shown.old shown.new left.old left.new result }
 {
-    let mut run = match set_up(rows, work, most, turns, order) {
+    let mut run = match set_up_lent(rows, work, most, turns, order) {
         Ok(run) => run,
         Err(Unready::Crowded) => return Explored::Crowded,
         Err(Unready::Empty) => return Explored::Stopped(0),

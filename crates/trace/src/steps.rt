@@ -2,7 +2,7 @@
 use crate::said::View;
 use crate::turn::{Found, look_at, next_of};
 use engine::order::{Order, drawn_order, fixed_order};
-use engine::set_up::set_up;
+use engine::set_up::set_up_lent;
 use engine::step::Run;
 use queues::lines::Line;
 use records::process::Record;
@@ -133,7 +133,7 @@ pub fn trace_run(
     if work.len() < 67 * wanted.most as usize {
         return Ok(());
     }
-    match set_up(
+    match set_up_lent(
         &rows,
         work,
         wanted.most,

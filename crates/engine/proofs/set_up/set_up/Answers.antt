@@ -4,10 +4,12 @@ use Rattle.engine.proofs.SettingLaws.{ready_is, begins_running}
 use Rattle.engine.proofs.set_up.set_up.Goals as goal
 
 pub returns : goal.returns
-returns c = (
-  length-set c.parted-processes.result.processes.now 0 c.begin.new.process ∙ c.parted-processes.ensures.processes,
-  λ g shown reads mapped.
-      begins_running c.args.rows.now.words.now c.args.rows.now.map.now.second shown c.args.turns g c.in-Some.head (c.in-Some.ensures.is g reads mapped) _
-      (ap record_of (get_or-set_same c.parted-processes.result.processes.now 0 c.begin.new.process [] (let p = c.parted-processes.ensures.processes in omega arith)) ∙ c.begin.ensures)
-      c.clear.ensures (ready_is c.parted-processes.result.slots.now (let p = c.parted-processes.ensures.slots in omega arith)) refl refl,
-)
+returns c =
+    let own = c.split_at_mut-processes.result.0.now in
+    let room = c.split_at_mut-processes.ensures.front_len in (
+      length-set own 0 c.begin.new.process ∙ room,
+      λ g shown reads mapped.
+          begins_running c.args.rows.now.words.now c.args.rows.now.map.now.second shown c.args.turns g c.in-Some.head (c.in-Some.ensures.is g reads mapped) _
+          (ap record_of (get_or-set_same own 0 c.begin.new.process [] (omega arith)) ∙ c.begin.ensures)
+          c.clear.ensures (ready_is c.args.slots.now (omega arith)) refl refl,
+    )

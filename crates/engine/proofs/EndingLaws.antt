@@ -1,5 +1,5 @@
 -- A run from turn to turn, and what holds when it ends.
-use Rattle.std.proofs.Common.{◌≡◌, ℕ, ◌≤◌, List, length, Err, sym, ap, ◌∙◌, subst, arith}
+use Rattle.std.proofs.Common.{◌≡◌, ℕ, ◌≤◌, List, length, Err, sym, refl, ap, ◌∙◌, subst, arith}
 use Rattle.model.specs.Program.{Program}
 use Rattle.model.specs.Steps.{Configuration, Steps, here, more}
 use Rattle.model.specs.Rows.{Reads}
@@ -14,8 +14,21 @@ use Rattle.turns.specs.Scheduling.{In, Scheduled}
 use Rattle.turns.specs.Turning.{Oddness, OneMore}
 use Rattle.turns.proofs.Moves.{still}
 use Rattle.engine.specs.declared.step.Run.{Run}
-use Rattle.engine.specs.Running.{Went, Alike, Breaks, Leaves}
+use Rattle.engine.specs.Running.{InPlace, Went, Alike, Breaks, Leaves}
 use Rattle.engine.specs.Ending.{Reached, Finished, TooMany, Strange, Midway, Written, Ending, Telling}
+
+pub in_place : (r : Run) → InPlace r r
+in_place r = record { processes = refl; lines = refl; slots = refl; records = refl; sides = refl; places = refl }
+
+pub in_place_on : (r r' r'' : Run) → InPlace r r' → InPlace r' r'' → InPlace r r''
+in_place_on r r' r'' a b = record {
+  processes = b.processes ∙ a.processes;
+  lines = b.lines ∙ a.lines;
+  slots = b.slots ∙ a.slots;
+  records = b.records ∙ a.records;
+  sides = b.sides ∙ a.sides;
+  places = b.places ∙ a.places;
+}
 
 pub steps_then : {g : Program} {a b c : Configuration} → Steps g a b → Steps g b c → Steps g a c
 steps_then x here = x

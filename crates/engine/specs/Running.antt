@@ -53,7 +53,7 @@ abbrev pub Right : List ℕ → Map → List ℕ → List ℕ → Run → Run �
 Right s m shown shown' r r' (Ok _) = Each s m shown r (λ g a old. Went s m.second g old shown' r r' a)
 Right s m shown shown' r r' (Err e) = Breaks s m shown r e
 
--- what a run holds but for its queue and its order is as it was
+-- the records, how many processes there are, and how many numbers were shown, are as they were
 pub record Alike (r r' : Run) : Type 0 where
   pub processes : r'.processes.now ≡ r.processes.now
   pub count : r'.count ≡ r.count
@@ -65,13 +65,23 @@ Leaves s m shown shown' r r' (Ok _) = Unit {0}
 Leaves s m shown shown' r r' (Err Crowded) = Each s m shown r (λ g a old. shown' ≡ shown)
 Leaves s m shown shown' r r' (Err Odd) = Each s m shown r (λ g a old. Alike r r' × (shown' ≡ shown))
 
--- how many processes there are, how many numbers were shown, the order, and where the queue begins and ends are as they were
+-- a run is in the same records, lines and slots as before, and there are as many of each
+pub record InPlace (r r' : Run) : Type 0 where
+  pub processes : r'.processes.ghost_name ≡ r.processes.ghost_name
+  pub lines : r'.lines.ghost_name ≡ r.lines.ghost_name
+  pub slots : r'.ready.slots.ghost_name ≡ r.ready.slots.ghost_name
+  pub records : length r'.processes.now ≡ length r.processes.now
+  pub sides : length r'.lines.now ≡ length r.lines.now
+  pub places : length r'.ready.slots.now ≡ length r.ready.slots.now
+
+-- how many processes there are, how many numbers were shown, the order, and the queue are as they were
 pub record Unmoved (r r' : Run) : Type 0 where
   pub count : r'.count ≡ r.count
   pub total : r'.total ≡ r.total
   pub order : r'.order ≡ r.order
   pub head : r'.ready.head ≡ r.ready.head
   pub ready : r'.ready.count ≡ r.ready.count
+  pub slots : r'.ready.slots.now ≡ r.ready.slots.now
 
 -- where a turn cannot be taken, for whatever reason, nothing of it is counted or drawn
 abbrev pub Stays : Run → Run → Result (Unit {0}) Trouble → Type 0

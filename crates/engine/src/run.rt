@@ -3,6 +3,7 @@
 // What holds between two turns: each record is a worker of a configuration that some steps have led to; whoever can
 // go on is in the queue, nobody twice; whoever waits at an end of a line is noted there, and no two who are noted at
 // the two ends of a line can take a step together. So when the queue is empty, no step is possible.
+ghost use Rattle.engine.specs.Running.{InPlace};
 ghost use Rattle.engine.specs.Ending.{Held, Endings, Tellings};
 
 use crate::step::Run;
@@ -16,6 +17,7 @@ impl Run<'_> {
         requires { Held rows.now.words.now rows.now.map.now shown.old self.old }
         ensures ends { Endings rows.now.words.now rows.now.map.now shown.old shown.new self.old self.new result }
         ensures tells { Tellings rows.now.words.now rows.now.map.now shown.old shown.new self.old self.new result }
+        ensures keeps { InPlace self.old self.new }
     {
         while self.ready.count > 0 {
             match self.step(rows, shown) {

@@ -1,6 +1,6 @@
 // The words of a run at its beginning.
 ghost use Rattle.std.specs.Prelude.{◌≡◌, ℕ, ◌*◌, ◌^◌, ◌<◌, ◌≤◌, length, slice_index_or, [], ◌∷◌};
-ghost use Rattle.engine.specs.Setting.{SetUp};
+ghost use Rattle.engine.specs.Setting.{SetIn, SetUp};
 
 use crate::order::Order;
 use crate::step::Run;
@@ -51,21 +51,21 @@ fn clear(lines: &mut [Line])
     }
 }
 
-// The first process begins with so many turns; whatever was in the words does not matter. The first so many records are
-// those of the run.
-pub fn set_up<'a>(
+// Writes the beginning of a run into records, lines and slots, wherever they lie: the first process begins with so many
+// turns; whatever was in the words does not matter. The caller makes the run: a `Run` over the first so many records, the
+// lines and the slots, with one process, which is first in the queue.
+pub fn set_up(
     rows: &Rows<'_>,
-    processes: &'a mut [Record],
-    lines: &'a mut [Line],
-    slots: &'a mut [u32],
+    processes: &mut [Record],
+    lines: &mut [Line],
+    slots: &mut [u32],
     most: u32,
     turns: u32,
-    order: Order,
-) -> Result<Run<'a>, Unready>
+) -> Result<(), Unready>
     requires records { most ≤ length processes.old }
     requires sides { most ≤ length lines.old }
     requires slots { most ≤ length slots.old }
-    ensures { SetUp rows.now.words.now rows.now.map.now most turns result }
+    ensures { SetIn rows.now.words.now rows.now.map.now most turns processes.new lines.new slots.new result }
 {
     let Some(head) = process_at(rows, 0) else {
         return Err(Unready::Empty);
@@ -76,7 +76,6 @@ pub fn set_up<'a>(
     if head.variables > 16 {
         return Err(Unready::Empty);
     }
-    let (processes, _) = processes.split_at_mut(most as usize);
     clear(lines);
     slots[0] = 0;
     let zeros = [0; 16];
@@ -87,21 +86,10 @@ pub fn set_up<'a>(
         &[],
         &zeros[..head.variables as usize],
     );
-    Ok(Run {
-        processes,
-        lines,
-        ready: Queue {
-            slots,
-            head: 0,
-            count: 1,
-        },
-        count: 1,
-        total: 0,
-        order,
-    })
+    Ok(())
 }
 
-// The same, with records, lines and slots cut from lent words.
+// A run at its beginning, in records, lines and slots cut from lent words.
 pub fn set_up_lent<'a>(
     rows: &Rows<'_>,
     work: &'a mut [u32],
@@ -117,5 +105,17 @@ pub fn set_up_lent<'a>(
         lines,
         slots,
     } = parted(work, most as usize);
-    set_up(rows, processes, lines, slots, most, turns, order)
+    set_up(rows, processes, lines, slots, most, turns)?;
+    Ok(Run {
+        processes,
+        lines,
+        ready: Queue {
+            slots,
+            head: 0,
+            count: 1,
+        },
+        count: 1,
+        total: 0,
+        order,
+    })
 }

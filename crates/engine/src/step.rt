@@ -27,7 +27,7 @@ pub struct Run<'a> {
 }
 
 impl Run<'_> {
-    ghost use Rattle.engine.specs.Running.{Right, Leaves, Stays};
+    ghost use Rattle.engine.specs.Running.{InPlace, Right, Leaves, Stays};
 
     // One turn of the run, of the process that is next in its order. It stays in the queue as long as it can go on. Where
     // the turn cannot be taken, nothing of it is counted, and the same process is next.
@@ -37,6 +37,7 @@ impl Run<'_> {
         ensures right { Right rows.now.words.now rows.now.map.now shown.old shown.new self.old self.new result }
         ensures leaves { Leaves rows.now.words.now rows.now.map.now shown.old shown.new self.old self.new result }
         ensures stays { Stays self.old self.new result }
+        ensures keeps { InPlace self.old self.new }
     {
         let mut order = self.order;
         let place = order.draw_place(self.ready.count);

@@ -32,7 +32,8 @@ impl Queue<'_> {
     // Puts one at the end of the queue.
     pub fn push(&mut self, who: u32)
         requires { self.old.count < length self.old.slots.now }
-        ensures { Pushed self.old self.new who }
+        ensures pushed { Pushed self.old self.new who }
+        ensures same_reference { self.new.slots.ghost_name ≡ self.old.slots.ghost_name }
     {
         let at = slot_after(self.slots.len(), self.head, self.count);
         self.slots[at] = who;
@@ -51,7 +52,8 @@ impl Queue<'_> {
     // Takes out the one at a place of the queue, the first for 0; the first comes to stand in its place.
     pub fn leave(&mut self, place: usize)
         requires { place < self.old.count }
-        ensures { Gone self.old self.new place }
+        ensures gone { Gone self.old self.new place }
+        ensures same_reference { self.new.slots.ghost_name ≡ self.old.slots.ghost_name }
     {
         let gap = slot_after(self.slots.len(), self.head, place);
         let next = slot_after(self.slots.len(), self.head, 1);
@@ -63,7 +65,8 @@ impl Queue<'_> {
     // Takes out the one at a place of the queue, the first for 0, and answers which it is.
     pub fn take(&mut self, place: usize) -> u32
         requires { place < self.old.count }
-        ensures { Took self.old self.new place result }
+        ensures took { Took self.old self.new place result }
+        ensures same_reference { self.new.slots.ghost_name ≡ self.old.slots.ghost_name }
     {
         let who = self.look(place);
         self.leave(place);

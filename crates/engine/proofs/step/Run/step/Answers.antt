@@ -51,11 +51,11 @@ returns-clause-right c g a old reads mapped run = elim c.match-branch-2.branch [
   | in-Shown+else-i-eq0 w ↦ rw w.shown-is (went_hidden c.args.rows.now.words.now c.args.rows.now.map.now.second c.args.shown.now c.args.self.now g a old run c.draw_place-place.result c.look-i.result c.look-i.ensures _ (rw w.self-is refl) (rw w.self-is refl) w.in-Shown.value w.if-i-eq0.false (rw w.self-is refl) (rw w.self-is (turn_is c.args.rows.now.words.now c.args.rows.now.map.now.second c.args.shown.now c.args.self.now g a old run c.draw_place-place.result c.look-i.result c.look-i.ensures c.act.new.processes c.act.new.lines c.in_ok-act.field-0 _ w.in-Shown.is (c.in_ok-act.ensures.turns g a (taken (items c.args.self.now.ready) c.draw_place-place.result) reads mapped (before c.args.rows.now.words.now c.args.rows.now.map.now.second c.args.shown.now c.args.self.now g a old run c.draw_place-place.result c.look-i.result c.look-i.ensures)))))
   | in-Both+else-self w ↦ (
       let t = turn_is c.args.rows.now.words.now c.args.rows.now.map.now.second c.args.shown.now c.args.self.now g a old run c.draw_place-place.result c.look-i.result c.look-i.ensures c.act.new.processes c.act.new.lines c.in_ok-act.field-0 _ w.in-Both.is (c.in_ok-act.ensures.turns g a (taken (items c.args.self.now.ready) c.draw_place-place.result) reads mapped (before c.args.rows.now.words.now c.args.rows.now.map.now.second c.args.shown.now c.args.self.now g a old run c.draw_place-place.result c.look-i.result c.look-i.ensures)) in
-      rw w.shown-is (went_both c.args.rows.now.words.now c.args.rows.now.map.now.second c.args.shown.now c.args.self.now g a old run c.draw_place-place.result c.look-i.result c.look-i.ensures w.in-Both.j _ (rw w.self-is (record { long = w.push.ensures.long; items = w.push.ensures.items; count = w.push.ensures.count })) t.1 (rw w.self-is refl) (rw w.self-is t.0))
+      rw w.shown-is (went_both c.args.rows.now.words.now c.args.rows.now.map.now.second c.args.shown.now c.args.self.now g a old run c.draw_place-place.result c.look-i.result c.look-i.ensures w.in-Both.j _ (rw w.self-is (record { long = w.push.ensures.pushed.long; items = w.push.ensures.pushed.items; count = w.push.ensures.pushed.count })) t.1 (rw w.self-is refl) (rw w.self-is t.0))
       )
   | in-Started+else-self-2+else-self-3 w ↦ (
       let t = turn_is c.args.rows.now.words.now c.args.rows.now.map.now.second c.args.shown.now c.args.self.now g a old run c.draw_place-place.result c.look-i.result c.look-i.ensures c.act.new.processes c.act.new.lines c.in_ok-act.field-0 _ w.in-Started.is (c.in_ok-act.ensures.turns g a (taken (items c.args.self.now.ready) c.draw_place-place.result) reads mapped (before c.args.rows.now.words.now c.args.rows.now.map.now.second c.args.shown.now c.args.self.now g a old run c.draw_place-place.result c.look-i.result c.look-i.ensures)) in
-      rw w.shown-is (went_both c.args.rows.now.words.now c.args.rows.now.map.now.second c.args.shown.now c.args.self.now g a old run c.draw_place-place.result c.look-i.result c.look-i.ensures c.args.self.now.count _ (rw w.self-is w.push-in-Started.ensures) (new_not c.args.rows.now.words.now c.args.rows.now.map.now.second c.args.shown.now c.args.self.now g a old run c.draw_place-place.result c.look-i.result c.look-i.ensures) (rw w.self-is refl) (rw w.self-is (one_more c.args.rows.now.words.now c.args.rows.now.map.now.second c.args.shown.now c.args.self.now g a old run c.draw_place-place.result c.look-i.result c.look-i.ensures c.act.new.processes c.act.new.lines t.0)))
+      rw w.shown-is (went_both c.args.rows.now.words.now c.args.rows.now.map.now.second c.args.shown.now c.args.self.now g a old run c.draw_place-place.result c.look-i.result c.look-i.ensures c.args.self.now.count _ (rw w.self-is w.push-in-Started.ensures.pushed) (new_not c.args.rows.now.words.now c.args.rows.now.map.now.second c.args.shown.now c.args.self.now g a old run c.draw_place-place.result c.look-i.result c.look-i.ensures) (rw w.self-is refl) (rw w.self-is (one_more c.args.rows.now.words.now c.args.rows.now.map.now.second c.args.shown.now c.args.self.now g a old run c.draw_place-place.result c.look-i.result c.look-i.ensures c.act.new.processes c.act.new.lines t.0)))
       )
-  | in-Off w ↦ rw w.shown-is (went_off c.args.rows.now.words.now c.args.rows.now.map.now.second c.args.shown.now c.args.self.now g a old run c.draw_place-place.result c.look-i.result c.look-i.ensures _ (rw w.self-is (record { long = w.leave.ensures.long; rest = w.leave.ensures.rest; count = w.leave.ensures.count })) (rw w.self-is refl) (rw w.self-is (turn_is c.args.rows.now.words.now c.args.rows.now.map.now.second c.args.shown.now c.args.self.now g a old run c.draw_place-place.result c.look-i.result c.look-i.ensures c.act.new.processes c.act.new.lines c.in_ok-act.field-0 _ w.in-Off.is (c.in_ok-act.ensures.turns g a (taken (items c.args.self.now.ready) c.draw_place-place.result) reads mapped (before c.args.rows.now.words.now c.args.rows.now.map.now.second c.args.shown.now c.args.self.now g a old run c.draw_place-place.result c.look-i.result c.look-i.ensures)))))
+  | in-Off w ↦ rw w.shown-is (went_off c.args.rows.now.words.now c.args.rows.now.map.now.second c.args.shown.now c.args.self.now g a old run c.draw_place-place.result c.look-i.result c.look-i.ensures _ (rw w.self-is (record { long = w.leave.ensures.gone.long; rest = w.leave.ensures.gone.rest; count = w.leave.ensures.gone.count })) (rw w.self-is refl) (rw w.self-is (turn_is c.args.rows.now.words.now c.args.rows.now.map.now.second c.args.shown.now c.args.self.now g a old run c.draw_place-place.result c.look-i.result c.look-i.ensures c.act.new.processes c.act.new.lines c.in_ok-act.field-0 _ w.in-Off.is (c.in_ok-act.ensures.turns g a (taken (items c.args.self.now.ready) c.draw_place-place.result) reads mapped (before c.args.rows.now.words.now c.args.rows.now.map.now.second c.args.shown.now c.args.self.now g a old run c.draw_place-place.result c.look-i.result c.look-i.ensures)))))
 ]

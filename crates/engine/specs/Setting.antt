@@ -33,6 +33,11 @@ SetIn s m most turns procs lines slots (Ok _) = (0 < most) ×
     ((g : Program) (shown : List ℕ) (r : Run) → Reads s g → Mapped s g m → Beginning procs lines slots r → Running s m.second g shown shown r (begin g turns))
 SetIn s m most turns procs lines slots (Err e) = Refused s m most turns e
 
+-- where a run does not begin, records, lines and slots are as they were
+abbrev pub Untouched : List (List ℕ) → List (List ℕ) → List ℕ → List (List ℕ) → List (List ℕ) → List ℕ → Result (Unit {0}) Unready → Type 0
+Untouched procs lines slots procs' lines' slots' (Ok _) = Unit {0}
+Untouched procs lines slots procs' lines' slots' (Err _) = (procs' ≡ procs) × (lines' ≡ lines) × (slots' ≡ slots)
+
 -- there is room for so many processes, and the run holds the configuration in which it begins, with whatever is in the
 -- words for numbers shown; or it does not begin
 abbrev pub SetUp : List ℕ → Map → ℕ → ℕ → Result Run Unready → Type 0

@@ -1,6 +1,6 @@
 // The words of a run at its beginning.
 ghost use Rattle.std.specs.Prelude.{◌≡◌, ℕ, ◌*◌, ◌^◌, ◌<◌, ◌≤◌, length, slice_index_or, [], ◌∷◌};
-ghost use Rattle.engine.specs.Setting.{SetIn, SetUp};
+ghost use Rattle.engine.specs.Setting.{SetIn, SetUp, Untouched};
 
 use crate::order::Order;
 use crate::step::Run;
@@ -53,7 +53,7 @@ fn clear(lines: &mut [Line])
 
 // Writes the beginning of a run into records, lines and slots, wherever they lie: the first process begins with so many
 // turns; whatever was in the words does not matter. The caller makes the run: a `Run` over the first so many records, the
-// lines and the slots, with one process, which is first in the queue.
+// lines and the slots, with one process, which is first in the queue. Where it is refused, nothing is written.
 pub fn set_up(
     rows: &Rows<'_>,
     processes: &mut [Record],
@@ -65,7 +65,8 @@ pub fn set_up(
     requires records { most ≤ length processes.old }
     requires sides { most ≤ length lines.old }
     requires slots { most ≤ length slots.old }
-    ensures { SetIn rows.now.words.now rows.now.map.now most turns processes.new lines.new slots.new result }
+    ensures begins { SetIn rows.now.words.now rows.now.map.now most turns processes.new lines.new slots.new result }
+    ensures leaves { Untouched processes.old lines.old slots.old processes.new lines.new slots.new result }
 {
     let Some(head) = process_at(rows, 0) else {
         return Err(Unready::Empty);

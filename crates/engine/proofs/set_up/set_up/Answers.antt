@@ -3,8 +3,8 @@ use Rattle.records.specs.Records.{record_of}
 use Rattle.engine.proofs.SettingLaws.{Clear, ready_is, begins_running}
 use Rattle.engine.proofs.set_up.set_up.Goals as goal
 
-pub returns : goal.returns
-returns c = (
+pub returns-clause-begins : goal.returns-clause-begins
+returns-clause-begins c = (
   omega arith,
   λ g shown r reads mapped b.
       begins_running c.args.rows.now.words.now c.args.rows.now.map.now.second shown c.args.turns g c.in-Some.head (c.in-Some.ensures.is g reads mapped) r
